@@ -1,7 +1,7 @@
 #!/usr/bin/env bash
 # Builds cipher_bench for a level of processor, and counts the instructions that the compiler made
 # of the loops of ChaCha20 and Poly1305: status 1 if they are not those expected. Usage:
-# bench/cipher.sh [CPU]. CPU is a level such as x86-64-v3; the default is this machine's.
+# bench/cipher.sh [CPU]. CPU is a level such as x86-64-v3; without it AGEP_CPU or this machine's.
 set -euo pipefail
 root=$(cd "$(dirname "$0")/.." && pwd -P)
 source "$root/share/build.sh"
@@ -10,17 +10,17 @@ cd "$root/crates/cipher_bench"
 
 # For each level its widest register, the shifts or rotations of ChaCha20 on such registers and the
 # most vectors that its loop stores on the stack, the same for the multiplications of Poly1305, and
-# how many of the two functions must align the stack to such a register. Other numbers mean slower
-# code: the compiler no longer sees that factors have 32 bits (three times the multiplications),
-# takes narrower registers, works in an order for which these are too few, or stores vectors in two
-# lines of the cache. The system aligns the stack to 16 bytes, which is enough for xmm.
+# how many of the two functions must align the stack to such a register. If these do not hold, the
+# code is slower: the compiler no longer sees that factors have 32 bits (three times the
+# multiplications), takes narrower registers, needs more registers than there are, or stores vectors
+# across two cache lines. The system aligns the stack to 16 bytes, which is enough for xmm.
 expected="x86-64 xmm 128 160 300 70 0
 x86-64-v2 xmm 64 170 300 70 0
 x86-64-v3 ymm 32 50 150 40 2
 x86-64-v4 zmm 32 4 75 16 2"
 
-# The counts of a level's registers: counts REGISTER. ChaCha20's loop has all its shifts, and
-# Poly1305's the first two thirds of its multiplications; each is in one function.
+# Prints the five numbers of cipher_bench for a register: counts REGISTER. ChaCha20's loop has all
+# its shifts, Poly1305's loop the first two thirds of its multiplications; each is in one function.
 counts() {
     objdump -d --no-show-raw-insn out/cipher_bench | awk -v wide="%$1" '
         /^[0-9a-f]+ <.*>:$/ { name = $2 }

@@ -4,10 +4,10 @@
 usage: bench/library.py PREFIX [--mib 1024] [--runs 3] [--only WORD]
 
 PREFIX is where ./install --library put the library; `agep` must be built. The script needs a C compiler,
-cargo and age. Programs in C and Rust link the archive, except in the row that says otherwise. The commands
-run in turn, --runs times each. The first table has the best times, on the clock and of the processor, the
-ratio of processor time to that of agep, and the peak memory; --only leaves out its rows without this word.
-TMPDIR names the folder for the files, which need five times the size.
+cargo and age. Programs in C and Rust link the archive, except in the rows that say otherwise. The first
+table's commands run in turn, --runs times each. It has the best times, of the clock and the processor, the
+ratio of processor time to that of agep, and the peak memory; --only leaves out its rows without this
+word, but not agep's. TMPDIR names the folder for the files, which need five times the size.
 """
 
 import argparse
@@ -53,8 +53,8 @@ print(time.monotonic() - clock, time.process_time() - cpu, file=sys.stderr)
 
 
 def use_memory(mib):
-    """Uses memory in a process that ends. A virtual machine returns memory to its host that has been free
-    for a while, and the first use after that takes several times as long."""
+    """Uses memory in a process that ends. A virtual machine returns memory that was free for a while to
+    its host, and the first use after that takes several times as long."""
     child = os.fork()
     if child == 0:
         memory = mmap.mmap(-1, mib << 20)
@@ -99,7 +99,7 @@ def built_in_rust(prefix, folder):
 
 
 def streams(prefix, folder):
-    """The same example in C and in Rust, over the archive and over the shared library."""
+    """The same example in C and in Rust, over the archive, and in C over the shared library too."""
     shared = built("stream", prefix, folder, [f"-L{prefix}/lib", "-lagefile", f"-Wl,-rpath,{prefix}/lib"])
     return [
         ("C, stream.c, shared library", shared.rename(folder / "stream_shared")), ("C, stream.c", built("stream", prefix, folder)),
@@ -108,7 +108,7 @@ def streams(prefix, folder):
 
 
 def rows_of(prefix, folder):
-    """Pairs of a title and a command: first those that encrypt, then those that decrypt."""
+    """Pairs of a title and a command: under `seal` those that encrypt, under `open` the others."""
     programs, parallel = streams(prefix, folder), built("parallel", prefix, folder)
     to_null = ["sh", "-c", '"$@" <plain >/dev/null', "sh"]
     from_made = ["sh", "-c", '"$@" <made >/dev/null', "sh"]
@@ -143,7 +143,7 @@ def prepare(folder, mib):
 
 
 def headers(environment):
-    """Times the header of 10,911 stanzas."""
+    """Times `agefile.inspect` on a header of 10,911 stanzas."""
     code = (
         "import agefile, time; head = b'age-encryption.org/v1\\n' + b'-> a\\n\\n' * 10911 + b'--- ' + b'A' * 43 + b'\\n'\n"
         "times = []\nfor _ in range(7):\n    began = time.process_time(); found = agefile.inspect(head); times.append(time.process_time() - began)\n"
@@ -152,8 +152,8 @@ def headers(environment):
     return subprocess.check_output([sys.executable, "-c", code], env=environment, text=True).strip()
 
 
-# Microseconds for each call, the best of 5 runs: rows of 20 bytes, written one by one and read as
-# lines; and for each file of 2 KiB, one again and again, and 10,000 one after the other.
+# Microseconds, the best of 5 runs: for each row of 20 bytes, written by a call or read as a line;
+# and for each file of 2 KiB, written or read: one file 10,000 times, then 10,000 files in turn.
 ROWS = """
 import agefile, gzip, os, sys, time
 KEY, COUNT, FILES = agefile.Key(bytes(32)), 500000, 10000

@@ -4,10 +4,10 @@ throughput by size.
 
 usage: bench/peers.py [--mib 1024] [--runs 7] [--files 1000] [--cpu LEVEL] [--only WORD] [--svg FILE]
 
-The programs are built for each level of processor given by --cpu, and else for this machine's and, if
-that is x86-64-v4, for x86-64-v3. --only leaves out the rows without this word, and the second table;
---svg draws the second table. The script needs the toolchain, a C compiler, openssl, age, gpg and GNU
-time. TMPDIR names the folder for the files, which need up to ten times --mib.
+The programs are built for each level of processor given by --cpu, or else for AGEP_CPU or this
+machine's level and, if that is x86-64-v4, for x86-64-v3. --only leaves out the second table and the
+rows without this word; --svg draws the second table. The script needs the toolchain, a C compiler,
+openssl, age, gpg and GNU time. TMPDIR names the folder for files of up to ten times --mib.
 """
 
 import argparse
@@ -95,7 +95,7 @@ class Command:
 
 
 class OpensslSpeed:
-    """The benchmark of openssl itself, which counts user time: the time that this many MiB would take."""
+    """The benchmark of openssl itself, which counts user time. Results are times for this many MiB."""
 
     def __init__(self, words, size, mib, held=""):
         self.line = ["openssl", "speed", *words, "-bytes", str(size), "-seconds", "1"]
@@ -154,7 +154,7 @@ def primitives(built, mib):
 
 
 def whole_files(built, mib, files, recipient):
-    """The same for files. Age has no symmetric keys, so its rows use an X25519 key."""
+    """Each kind of work on files. Age has no symmetric keys, so its rows use an X25519 key."""
 
     def here(*words, **options):
         return [Command(each.agep, *words, **options) for each in built]
@@ -304,7 +304,7 @@ def cells(times):
 
 
 def ratios(here, there):
-    """How many times as fast each of ours is as a peer, by the best and by the median."""
+    """How many times as fast as a peer each of our programs is, by the best and by the median."""
     def ratio(ours, kind):
         return kind(there) / kind(ours) if kind(ours) > 0 else math.inf
 

@@ -58,7 +58,7 @@ def lines(panel, rates):
 
 
 def draw(works):
-    """The pictures of all kinds of work, side by side, each from its name and its rates."""
+    """The picture: a panel for each kind of work, side by side, from its name and its rates."""
     panels = [(Panel(80 + 430 * number), name, rates) for number, (name, rates) in enumerate(works.items())]
     width = panels[-1][0].left + 350
     body = [part for panel, name, rates in panels for part in (*grid(panel, name), *lines(panel, rates))]

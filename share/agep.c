@@ -8,8 +8,8 @@
 typedef int build(int argc, char **argv, char **environment);
 build main_x86_64, main_x86_64_v3, main_x86_64_v4;
 
-/* Answers --version, as the only argument, with the version of the package and the level of the
- * build, because a build knows neither. */
+/* Answers --version or -V, as the only argument, with the version of the package and the level of
+ * the build, because a build knows neither. */
 static int say_version(const char *level)
 {
     if (printf("agep %s (%s)\n", AGEP_VERSION, level) > 0 && fflush(stdout) == 0)

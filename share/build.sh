@@ -1,9 +1,9 @@
-# Builds the program and the library. Scripts source this file, with the repository's folder in
-# `root`.
+# Functions that build the program and the library. Scripts source this file, with the repository's
+# folder in `root`.
 # shellcheck shell=sh disable=SC2046,SC2154
 
 # The levels of processor for which the library and the packages' program contain builds, lowest
-# first. Debian and most distributions support x86-64.
+# first. Debian and most distributions require no more than x86-64.
 levels="x86-64 x86-64-v3 x86-64-v4"
 
 # Whether this machine's processor has all of a level: runs LEVEL. It is assumed to have x86-64-v2.
@@ -120,8 +120,8 @@ stop_libraries() {
 # Proves and builds the libraries up to age_file or up to age_cli, lowest first: libraries LAST. A
 # run of `rt` waits for another run that uses the same lower library. So only those that share none
 # are proved in parallel with the others: age_cipher, and age_job with age_args above it. The latter
-# two must be done before age_commands, which depends on age_job, too. Skips what this script has
-# proved before.
+# two must be done before age_commands, which also depends on age_job. Does nothing if this script
+# has proved them before.
 proved_to=
 libraries() {
     [ "$proved_to" != age_cli ] && [ "$proved_to" != "$1" ] || return 0
@@ -147,8 +147,8 @@ libraries() {
     trap - INT TERM
 }
 
-# The program, and its mark, which names the processor and the toolchain of the last build, and has
-# the time at which that build started.
+# The program, and its mark, which names the processor and the toolchain of its build, and has the
+# time at which that build started.
 program=$root/crates/agep/out/agep
 built=$root/crates/agep/out/built
 

@@ -1,14 +1,14 @@
-// For LD_PRELOAD: makes a call of the process short, or makes it fail. CALL names its kind: read,
-// write, ftruncate, fsync, lseek, statx, open, rename, link, unlink, flock, fchmod or fchown, message
-// for a write to standard error, or any. NUMBER is its number among the calls of its kind, from 1, or
-// 0 for all of them. DO says what happens: the call transfers "one" byte, "half" of the bytes or
-// "none", or fails with this error number, or the process is killed by signal 9 before it, or a
-// command of the shell is run. If AFTER names a kind, only what comes after a call of that kind
-// counts. If KEPT is set, each unlink fails too. The file "met" gets the kind and the file of the
-// first such call. The file that TRACE names gets a line for each call but unlink: its kind, the
-// file, and the result. A read of the character device /dev/urandom returns the bytes of the file
-// that URANDOM names. If CLOCK is set, these milliseconds pass between two looks at the clock. If
-// INODE is set, the inode number of each file is its size times this. If BAD is set, to two
+// For LD_PRELOAD: shortens a call, or makes it fail. CALL names its kind: read, write, ftruncate,
+// fsync, lseek, statx, open, rename, link, unlink, flock, fchmod or fchown, message for a write to
+// standard error, or any. NUMBER is its number among the calls of its kind, from 1, or 0 for all.
+// DO says what happens: the call transfers "one" byte, "half" of the bytes or "none", or fails with
+// the error of this number; or before it signal 9 kills the process ("kill"), or the shell runs DO,
+// any other text. If AFTER names a kind, only calls after the first of that kind count. The file
+// "met" gets the kind and the file of the first call for which DO happens. If KEPT is set, each
+// unlink fails. The file that TRACE names gets a line for each call but unlink: its kind, the file,
+// and the result (0 if open succeeds). A read of the character device /dev/urandom returns the
+// bytes of the file that URANDOM names. If CLOCK is set, these milliseconds pass between two looks
+// at the clock. If INODE is set, each file's inode number is its size times this. If BAD has two
 // offsets, a file IN.age cannot be read from the first to before the second.
 #define _GNU_SOURCE
 #include <dlfcn.h>

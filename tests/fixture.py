@@ -1,6 +1,6 @@
 """Makes the folder of files with which the transcripts and the tests of the program start.
 
-Nothing in it comes from the program: reference.py makes the age files.
+Nothing in it comes from the program: reference.py makes the age files, and age made those of data/.
 """
 
 import hashlib
@@ -29,7 +29,7 @@ def for_passphrase(plain, passphrase=PASSPHRASE, work=10):
 
 
 def for_public_keys(count):
-    """A file as age makes it for so many public keys, which are nobody's."""
+    """A file like those that age makes for so many public keys; nobody has the secret keys."""
     shares = [hashlib.sha256(b"%d" % number).digest() for number in range(2 * count)]
     stanzas = [reference.stanza_text([b"X25519", reference.signs(one)], other) for one, other in zip(shares[::2], shares[1::2])]
     return reference.ended(reference.VERSION + b"".join(stanzas), SEED[:16]) + for_keys(HELLO, KEY)[156:]

@@ -1,6 +1,6 @@
 #!/usr/bin/env python3
-"""Makes the test vectors in a folder, which must not exist, with tests/reference.py alone, and prints the
-SHA-256 of all of them. tests/vectors/README.md describes them.
+"""Makes the test vectors in a folder, which must not exist, with Python alone, and prints their number
+and their SHA-256. tests/vectors/README.md describes them.
 
 usage: tests/make_vectors.py FOLDER
 
@@ -78,7 +78,7 @@ class Case(NamedTuple):
         return self.head + b"\n" + (zlib.compress(self.file, 9) if len(self.file) > PLAIN_SIZE else self.file)
 
 
-# Lines of headers, each with one or more stanzas.
+# Each of these functions returns the lines of one stanza.
 def scrypt_lines(*arguments, body=None):
     """A passphrase stanza with other arguments after its type, or another body."""
     right, wrap_key = passphrase_stanza(PASSPHRASE, 1, SALT)
@@ -463,8 +463,8 @@ def sizes():
 
 
 def payloads(rows):
-    """Damaged payloads: the rows are their names, comments, faults, the chunks of the faults, the sealed
-    chunks and, if a reader may release it, the text of the faulty chunk. The chunks before it are released."""
+    """Damaged payloads: the rows are their names, comments, faults, numbers of faulty chunks, sealed chunks
+    and, if a reader may release it, the text of the faulty chunk. The chunks before it are released."""
     for name, comment, fault, number, chunks, *more in rows:
         text = b"".join(filler(i, False) for i in range(number))
         yield Case(f"payload_{name}", comment, age_file(SCRYPT, NONCE + b"".join(chunks)), (fault, number), text, more=b"".join(more))
@@ -560,7 +560,7 @@ GROUPS = (
 
 @functools.cache
 def cases():
-    """All vectors by name."""
+    """All vectors, sorted by name."""
     return sorted((case for group in GROUPS for case in group()), key=lambda case: case.name)
 
 

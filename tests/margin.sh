@@ -1,6 +1,6 @@
 #!/bin/bash
-# Checks that no proof is near a limit of the prover's searches: --margin gives each search half of
-# its counts, so a goal that it leaves open may stay open with the next version of the toolchain.
+# Checks that no proof is near a limit of the prover's searches: --margin halves these limits, so a
+# goal that it leaves open may stay open with the next version of the toolchain.
 # The last line is 'N passed, M failed': a crate passes if it is proved so.
 #
 # usage: tests/margin.sh [CRATE..]     these crates, or all

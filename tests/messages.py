@@ -1,5 +1,5 @@
-"""The messages of agep by the names of their faults, from the texts written by hand: those about files from
-docs/FORMAT.md, those of the program from tests/messages.txt."""
+"""The messages of agep by the names of their faults, from texts written by hand: those of the format from
+docs/FORMAT.md, those about options and files from tests/messages.txt."""
 
 import itertools
 import os

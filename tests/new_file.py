@@ -1,5 +1,5 @@
-"""The files after a job that writes a new file, and what it reports, as the pages promise: functions of the
-files before the job. test_new_file.py tries each cell with the program and with the package for Python."""
+"""The files after a job that writes OUT, and what it reports, as the pages promise: functions of the files
+before the job and of its end. test_new_file.py tries each cell, with agep or the package for Python."""
 
 import collections
 import itertools
@@ -9,14 +9,14 @@ import itertools
 SPECIAL = dict.fromkeys(("folder", "fifo", "null", "full"), "empty")
 OLD = dict.fromkeys(("regular", "link", "in", "hard", "readonly", "written"), "old")
 OUTS = {"absent": "absent", "dangling": "absent", "empty": "empty", **OLD, **SPECIAL}
-# What OUT.agep-new is: what a killed run left; a second name of OUT, as one with -n leaves; locked; or what no
-# run makes: a second name of another file, IN, a key that the program reads, and what is no file.
+# What OUT.agep-new is: absent; left by a killed run; a second name of OUT, left by one with -n; locked; or
+# what no run makes: a second name of another file, IN, a key that the program reads, or not a regular file.
 NOT_OURS = "second", "in", "key", "fifo", "link", "folder"
 NEWS = "absent", "dead", "linked", "busy", *NOT_OURS
-# How the job ends. The data cannot be read at all, or not from the third chunk on; a Writer is closed and its
-# error dropped, or it is dropped, or held until the program ends; before a call another program makes OUT, or
-# wants to write it with --atomic; the call fails; or the process is killed before it. The second fsync is that
-# of the folder, and statx is each one after OUT was replaced.
+# How the job ends: whole; the data cannot be read at all, or not from the third chunk on (a Writer's block
+# then raises, after 100 bytes or at its end); a Writer is closed and its error dropped, or it is dropped, or
+# held until the program ends; before a call another program makes OUT, or wants to write it with --atomic; the
+# call fails; or the process is killed before it. fsync 2 is the folder's; statx 0, all after OUT is replaced.
 GIVEN_UP = "closed", "dropped", "held"
 CALLS = "write 1", "write 2", "fsync 1", "fsync 2", "rename 1", "link 1", "unlink 1"
 ENDS = (
@@ -25,7 +25,7 @@ ENDS = (
 )
 COPIES = "decrypt", "encrypt", "rewrap", "salvage"
 JOBS = {"agep": (*COPIES, "range"), "python": (*COPIES, "open")}
-# Options are as in a command line, or empty. The other sinks are a descriptor, and an object with a buffer.
+# Options are as in a command line, or empty. A sink is a name, a descriptor, or an object with a buffer.
 Cell = collections.namedtuple("Cell", "by job sink out new folder atomic n end")
 # What OUT has, what OUT.agep-new is ("same": what it was; "left": this run's file), and what was told.
 After = collections.namedtuple("After", "out new told")
@@ -66,7 +66,7 @@ def happens(c):
         "rename 1": c.atomic and not c.n,
         "link 1": c.atomic and c.n,
         "unlink 1": c.atomic and (c.n or c.new != "absent"),
-        # Python does not look again.
+        # Python does not look at OUT again.
         "statx 0": c.atomic and c.by == "agep",
     }
     return bool(cases.get(c.end, cases.get(call, True)))
@@ -77,7 +77,7 @@ def told(c):
     how, _, call = c.end.partition(" ")
     if c.out == "full" and how != "early":
         return "write"
-    # Once OUT is replaced, only the sync of the folder can fail. Where files cannot be linked, the program renames.
+    # Once OUT is replaced, of these calls only a failed sync is an error. If a link fails, the program renames.
     if how == "fail" and c.atomic and (call in ("unlink 1", "statx 0") or call == "link 1" and c.by == "agep"):
         return None
     if how == "fail":
@@ -87,7 +87,7 @@ def told(c):
 
 
 def in_place(c):
-    """What OUT has if it is written itself: the first write empties it."""
+    """What OUT has if it is written in place: it is emptied before the first write."""
     how, _, call = c.end.partition(" ")
     if how == "early" and c.sink == "name" and OUTS[c.out] == "old":
         return "old"
@@ -102,7 +102,7 @@ def after(c):
     why, is_there = refusal(c), "absent" if c.new == "absent" else "same"
     how, _, call = c.end.partition(" ")
     if why == "exists" and c.atomic and c.new == "linked":
-        # The second name goes although OUT stays; Python must be able to lock the file.
+        # OUT stays, but its second name is removed, by Python only if it can lock the file.
         return After(OUTS[c.out], is_there if c.by == "python" and c.out in ("readonly", "written") else "absent", why)
     if why or how == "early" and c.by == "python" and c.job in ("decrypt", "rewrap", "salvage"):
         # These read the header before they open OUT.
@@ -122,14 +122,14 @@ def after(c):
 
 
 def then(c):
-    """The cell of the same job run again, whole, after a run that left its new file."""
+    """The cell of the same job run again, whole, after a run that left a file OUT.agep-new."""
     out, new, _ = after(c)
     new = {"left": "linked" if out == "new" else "dead", "same": c.new}[new]
     return c._replace(out="regular" if out == "new" and c.out != "link" else c.out, new=new, end="whole")
 
 
 def is_place(c):
-    """Whether there is such a place that does not repeat another."""
+    """Whether the files of the cell can exist, and no other cell stands for the same case."""
     is_plain = (c.new, c.folder, c.atomic, c.n) == ("absent", "usual", "", "")
     return (
         (c.new != "linked" or OUTS[c.out] != "absent" and c.out not in SPECIAL)
@@ -137,7 +137,7 @@ def is_place(c):
         and (c.new not in ("busy", "in") or c.out not in ("dangling", "in", "hard"))
         and (c.folder == "usual" or c.new in ("absent", "dead") and (c.atomic or c.folder == "unwritable"))
         and (c.sink == "name" or c.by == "python" and c.out in ("regular", "full", "fifo") and is_plain)
-        # A copy in Python has no -n, nor a key of a file; a Writer reads nothing.
+        # A copy in Python has no -n; no job in Python reads a key file; a Writer has no IN.
         and (c.by == "agep" or c.new != "key" and (c.job == "open" or not c.n))
         and (c.job != "open" or c.out not in ("in", "hard") and c.new != "in")
     )

@@ -1,5 +1,5 @@
-"""The contents of a package, the lines of packaged.txt about it, and the processors for which its programs
-are built."""
+"""The contents of a package, the lines of packaged.txt about it, and the instructions of its programs that
+an old processor may lack."""
 
 import io
 import re
@@ -42,7 +42,7 @@ def listed():
 
 
 # Instructions that a processor of the level x86-64 may lack, as objdump names them: AVX, FMA, F16C,
-# BMI, MOVBE, LZCNT, POPCNT, and SSE3 to SSE4.2.
+# BMI, MOVBE, LZCNT, POPCNT, CMPXCHG16B, and SSE3 to SSE4.2.
 NEWER = re.compile(
     r"\t(v[a-z]+\w*|andn|bextr|bls\w+|bzhi|mulx|p?dep|pext|rorx|sarx|shlx|shrx|movbe|lzcnt|popcnt|crc32\w*|cmpxchg16b|lddqu|mov(ddup|s[hl]dup)"
     r"|h(add|sub)p[sd]|addsubp[sd]|pshufb|palignr|ph(add|sub)\w+|pmaddubsw|pmulhrsw|psign\w|pabs\w|p?blend\w+|dpp[sd]|extractps|insertps"
@@ -55,13 +55,13 @@ def disassembled(file):
 
 
 def instructions_of(file):
-    """The numbers of a program's instructions: of the longest row without newer ones, of newer ones, of all."""
+    """Counts of a program's instructions: the longest run without newer ones, the newer ones, and all."""
     marks = "".join("-" if NEWER.search(line) else "+" for line in disassembled(file) if "\t" in line)
     return max(map(len, marks.split("-"))), marks.count("-"), len(marks)
 
 
 def functions_of(file):
-    """The name of each function of a program or archive, the same in all builds, and its number of newer
+    """The name of each function of a program or archive, without its level, and its number of newer
     instructions."""
     found = [["", 0]]
     for line in disassembled(file):

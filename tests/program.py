@@ -19,13 +19,13 @@ from messages import filled
 TESTS = os.path.dirname(os.path.abspath(__file__))
 ROOT = os.path.dirname(TESTS)
 AGEP = os.path.join(ROOT, "crates", "agep", "out", "agep")
-# The commands that open IN, with a key and with a passphrase. IN must follow them.
+# The commands that unwrap IN's file key, with a key and with a passphrase. IN must follow them.
 OPENING = ("decrypt -k key", "range -k key 0 1", "rewrap -k key -K key", "salvage -k key")
 BY_PASSPHRASE = ("decrypt -p pass", "range -p pass 0 1", "rewrap -p pass -K key", "salvage -p pass")
 # The levels of processor for which the packages contain builds, lowest first.
 LEVELS = ("x86-64", "x86-64-v3", "x86-64-v4")
 IO_ERROR, NO_SPACE, INTERRUPTED = "5", "28", "4"
-# Gives up after so many seconds without progress.
+# The tests give up after so many seconds without progress.
 PATIENCE = 600
 # How many programs run at a time: by default half as many as processors, because other scripts run meanwhile.
 AT_A_TIME = int(os.environ.get("AT_A_TIME", max(1, (os.cpu_count() or 1) // 2)))
@@ -46,13 +46,13 @@ def scratch():
 
 
 def memory():
-    """A folder in memory, where a new file costs a tenth, or None if programs may not run there or it is small."""
+    """A fast folder in memory, or None if we cannot write files or run programs there, or it lacks space."""
     has_room = os.access("/dev/shm", os.W_OK) and shutil.disk_usage("/dev/shm").free > 1 << 30
     return "/dev/shm" if has_room and not os.statvfs("/dev/shm").f_flag & os.ST_NOEXEC else None
 
 
 def made_once(make):
-    """The function; its first result is kept."""
+    """The function, but later calls return the result of the first."""
     kept = []
     return lambda: kept[0] if kept else kept.append(make()) or kept[0]
 
@@ -189,7 +189,7 @@ class ProgramCase(unittest.TestCase):
         )
 
     def assert_ended(self, ran, status=0, err="", out=b""):
-        """Compares the status, the standard error and the standard output of a run."""
+        """Compares the status and output of a run; `out` None stands for any standard output."""
         expected = err if isinstance(err, bytes) else err.encode()
         words = " ".join(map(str, ran.words))
         came = f"status {ran.status}\n{shown(ran.err)}"

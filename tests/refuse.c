@@ -1,6 +1,6 @@
-// For LD_PRELOAD: refuses the process its allocation with the number REFUSE (from 1), and then
-// creates the empty file "refused". If LARGE is set, refuses each allocation of more than so many
-// bytes, and writes the size of the last one into that file.
+// For LD_PRELOAD: refuses the call of malloc or realloc with the number REFUSE (from 1), and
+// creates the empty file "refused". If LARGE is set, refuses each of these calls for more than
+// LARGE bytes, and writes the size of the last such call into "refused".
 #define _GNU_SOURCE
 #include <dlfcn.h>
 #include <fcntl.h>

@@ -1,5 +1,5 @@
 """The output and the report of salvaging a payload in Python and Rust, by a model without a cipher: a piece
-opens exactly if it was made as the chunk of its number."""
+opens exactly if it was made as the chunk of its number. The last piece may have padding."""
 
 import itertools
 

@@ -9,8 +9,8 @@ from program import ROOT, scratch, write
 from terminal import Terminal
 
 FOLDER = ROOT + "/share/completions"
-# How each shell reads its completions, and makes control-T replace the last word by all that it
-# offers.
+# How bash and zsh read their completions, and make control-T replace the last word by all that
+# they offer.
 STARTS = {
     "bash --norc": f"source {FOLDER}/agep.bash; bind '\"\\C-t\": insert-completions'",
     "zsh -f": f"""fpath=({FOLDER} $fpath); autoload -Uz compinit && compinit -u -D
@@ -48,5 +48,5 @@ def offered(shell, lines, folder):
         return dict(zip(lines, map(sorted, by_fish(lines, folder))))
     (start,) = (start for start in STARTS if start.startswith(shell))
     found = list(at_terminal(start, lines, folder))[1:]
-    # The words before it must be unchanged, and it stays if nothing is offered.
+    # Leaves out the words before the last, and the last itself, which stays if nothing is offered.
     return {line: sorted({*words[line.count(" ") - 1 :]} - {line.split(" ")[-1]}) for line, words in zip(lines, found)}

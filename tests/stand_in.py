@@ -1,4 +1,4 @@
-"""A stand-in for the toolchain: it copies what the repository has built for the packages."""
+"""Stand-ins: a toolchain that copies the builds for the packages, other tools, a processor."""
 
 import os
 import shutil
@@ -32,7 +32,7 @@ def tool(path, script):
 
 
 def processor(tree, file):
-    """Makes a file by which the scripts of a tree find that the processor has all of x86-64-v4."""
+    """Makes the scripts of a tree find, in this file, a processor with all of x86-64-v4."""
     write(file, b"flags\t\t: fpu avx avx2 bmi1 bmi2 f16c fma abm movbe xsave avx512f avx512bw avx512cd avx512dq avx512vl\n")
     write(f"{tree}/share/build.sh", read(f"{tree}/share/build.sh").replace(b"/proc/cpuinfo", os.fsencode(file)))
 

@@ -3,8 +3,8 @@
 
 usage: tests/terminal.py PASSPHRASE_FILE COMMAND..
 
-Types a passphrase at each prompt of a command, and ends with its status; if that is not 0, prints what it said on
-standard error.
+Types a passphrase at each prompt for one, and ends with the command's status; if that is not 0, prints to
+standard error all that the terminal showed.
 """
 
 import contextlib
@@ -24,7 +24,7 @@ from program import PATIENCE, wait_for
 
 
 class Terminal(subprocess.Popen):
-    """A program with the terminal as these of its streams."""
+    """A program; those of its streams that `streams` names are the terminal."""
 
     def __init__(self, *words, streams=("stdin", "stdout", "stderr"), **how):
         self.said, self.has_ended, self.pieces = b"", False, queue.SimpleQueue()

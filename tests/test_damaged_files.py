@@ -1,6 +1,6 @@
-"""Files of an empty plaintext, cut or changed at each offset; files of two chunks, cut at their boundaries;
-and such files after rewrap. tests/test_library.py and tests/test_packages.py open the files of `cases` with
-the libraries, in the form of test vectors."""
+"""Files of an empty plaintext, cut or changed at each offset; files of two chunks, cut near their
+boundaries; and such files after rewrap. tests/test_library.py and tests/test_packages.py open the files of
+`cases` with the libraries, in the form of test vectors."""
 
 import fixture
 import reference
@@ -21,20 +21,20 @@ def with_another_stanza():
 
 
 def changed(file, at, *signs):
-    """The file with the byte at this offset changed: within `signs`, the ranges of a body and a MAC, to
-    another base64 character, and elsewhere in its lowest bit."""
+    """The file with the byte at this offset changed: within `signs`, the ranges of bodies and the MAC,
+    to another base64 character, and elsewhere in its lowest bit."""
     if any(first <= at <= last for first, last in signs):
         return file[:at] + (b"E" if file[at : at + 1] == b"A" else b"A") + file[at + 1 :]
     return fixture.changed(file, at)
 
 
 def after_last_line(file, end, line):
-    """If the last LF of the header is changed, the line continues into the payload."""
+    """The fault if the header's last LF is changed: the line may end at an LF of the payload."""
     return ("BadLine", line) if b"\n" in file[end + 1 :] else ("HeaderTruncated",)
 
 
 def cut_rows(header):
-    """Rows for a file of an empty plaintext that is cut in its header, its nonce of 16 bytes, or its tag."""
+    """Rows for a file of an empty plaintext: cut in its header, nonce of 16 bytes or tag, and whole."""
     return [
         (0, header - 1, "HeaderTruncated"), (header, header + 15, "NonceTruncated"), (header + 16, header + 31, "ChunkShort", 0),
         (header + 32, header + 32, None),
@@ -42,8 +42,8 @@ def cut_rows(header):
 
 
 def keyed_rows(file, end, shift, line):
-    """Rows for a keyed file that is changed at each offset. Its stanza begins `shift` bytes and `line` lines
-    later than usual."""
+    """Rows for a keyed file that is changed at each offset from its keyed stanza on, which begins `shift`
+    bytes and `line` lines later than usual."""
     return [
         (22 + shift, 24 + shift, "BadLine", 2 + line), (25 + shift, 40 + shift, "NoMatch"), (41 + shift, 61 + shift, "WrongKey"),
         (62 + shift, 62 + shift, *SALT_FAULT), (63 + shift, 63 + shift, "BadLine", 2 + line), (64 + shift, 106 + shift, "WrongKey"),
@@ -62,8 +62,8 @@ def passphrase_rows(file):
 
 
 def tables():
-    """The name of a table, the secret, the number of files, a function from numbers to files, and the rows: a
-    first and a last number, and the fault. Nothing is released."""
+    """Each table: its name, the secret, the number of files, a function from numbers to files, and
+    the rows: a first and a last number, and the fault. The plaintext of all files is empty."""
     of_pass, of_key, of_two = fixture.for_passphrase(b""), fixture.for_keys(b"", KEY), with_another_stanza()
     for name, secret, file, header in ("passphrase", BY_PASSPHRASE, of_pass, 150), ("key", BY_KEY, of_key, 156), ("two", BY_KEY, of_two, 230):
         yield f"{name}_cut", secret, header + 33, lambda at, file=file: file[:at], cut_rows(header)
@@ -87,7 +87,7 @@ def cases():
 
 
 def two_chunks():
-    """A file of two chunks that is cut at their boundaries, or has a byte after its end."""
+    """A file of two chunks that is cut near their boundaries, or has a byte after its end."""
     plain = fixture.PLAIN[:65537]
     file = fixture.for_passphrase(plain) + b"x"
     for size, name, chunk in (
@@ -110,7 +110,7 @@ class DamagedFiles(ProgramCase):
                 self.assert_file("back", case.text)
 
     def test_rewrapped(self):
-        """rewrap copies any payload, so both files have the same result."""
+        """rewrap copies any payload, so the old and the new file decrypt with the same result."""
         nothing = read("empty_pass.age")
         cuts = *((size, "NonceTruncated") for size in (150, 155, 165)), *((size, "ChunkShort: 0") for size in (166, 181))
         for title, file, name, out in (

@@ -1,4 +1,4 @@
-"""Terminals, pipes without a reader, signals, another /dev/urandom, and the system calls of a run."""
+"""Terminals, broken pipes, signals, closed streams, /dev/urandom, device numbers, system calls."""
 
 import itertools
 import os
@@ -26,8 +26,8 @@ def tool(name):
 
 class Terminals(ProgramCase):
     def on_terminal(self, *words):
-        """Runs the program with a terminal as standard output; returns its status, its standard error, and the output
-        there."""
+        """Runs the program with a terminal as standard output; returns its status, its standard error, and what the
+        terminal shows."""
         return Terminal(AGEP, *words, streams=["stdout"], stdin=subprocess.DEVNULL, stderr=subprocess.PIPE).ended()
 
     def test_refused(self):
@@ -83,7 +83,7 @@ class Interrupted(ProgramCase):
 
 
 class ClosedStreams(ProgramCase):
-    """No file of a job gets the descriptor of a closed standard stream."""
+    """No file of a job gets the descriptor of a closed standard output or standard error."""
 
     def run_closed(self, words, closed, is_terminal):
         """Runs the program with these streams closed and a terminal or a pipe as standard error. Returns its
@@ -95,7 +95,7 @@ class ClosedStreams(ProgramCase):
         return ran.status, ran.out, ran.err.decode()
 
     def test_each(self):
-        """All eight combinations, with and without -v and a terminal."""
+        """All eight sets of closed streams, with and without -v, in a pipe and at a terminal."""
         closed = "Bad file descriptor"
         saved = "chunk 0 is lost: bytes 0 to 5 of the plaintext", "the file ends after 22 bytes of chunk 0: more may be missing"
         for streams in itertools.chain.from_iterable(itertools.combinations(range(3), count) for count in range(4)):
@@ -129,14 +129,14 @@ class ClosedStreams(ProgramCase):
                                 os.remove("made")
 
     def test_by_name(self):
-        """No name of a closed stream, such as /dev/stdout, leads to a file."""
+        """No name of a closed output stream, such as /dev/stdout, leads to a file."""
         for streams, name in ((1,), "/dev/stdout"), ((2,), "/dev/stderr"), ((1, 2), "/dev/fd/1"), ((0, 1, 2), "/dev/fd/2"):
             with self.subTest(f"-o {name}, {streams} closed"):
                 line = "" if 2 in streams else fault(message("CannotCreate", name))
                 self.assertEqual(self.run_closed(f"decrypt -k key -o {name} key.age", streams, False), (1, b"", line))
 
     def test_no_folder(self):
-        """If no folder can be opened in place of the stream, nothing is done."""
+        """If no folder can be opened in place of a closed output stream, nothing is done."""
         if os.geteuid() != 0:
             self.skipTest("this needs the right to change the root")
         os.makedirs("root/d")
@@ -165,8 +165,8 @@ class ClosedStreams(ProgramCase):
 
 
 class DefaultSeed(ProgramCase):
-    """The seed is read from /dev/urandom only if that is a character device. These tests replace it for their
-    own processes."""
+    """The seed is read from /dev/urandom only if that is, as far as is known, a character device. These tests
+    replace /dev/urandom for their own processes."""
 
     def with_device(self, device, *words, under=()):
         done = subprocess.run(
@@ -198,7 +198,7 @@ class SameInode(ProgramCase):
     """Two names are one file if both device and inode are the same."""
 
     def mounted(self, script):
-        """The output and the status of a script that may mount, in its own namespace."""
+        """The status, output and standard error of a script that mounts, in its own namespace."""
         tool("unshare")
         words = ["unshare", "-m", "bash", "-ec", script, "bash", AGEP]
         done = subprocess.run(words, stdin=subprocess.DEVNULL, capture_output=True, timeout=600)
@@ -225,7 +225,7 @@ class SameInode(ProgramCase):
         self.assert_file("first", HELLO)
 
     def test_one_block_device(self):
-        """Any node with its number is the same block device; a character device may be both IN and OUT."""
+        """Nodes with the same number are one block device; a character device may be both IN and OUT."""
         write("disk", PLAIN[:65536])
         for out in ("$disk", "node"):
             for option in ("-o ", ">"):

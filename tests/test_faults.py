@@ -49,8 +49,8 @@ ORDERS = {
 
 class Order(Files):
     def test_order(self):
-        """Of any two faults a command reports the one that it checks for first. No file is created or
-        changed."""
+        """Of two faults in different slots a command reports the one that it checks for first. No
+        file is created or changed."""
         for command, (good, groups) in ORDERS.items():
             rows = [(slot, words, name) for slot, faults in groups for name, each in faults.items() for words in each]
             for first, other in itertools.combinations_with_replacement(rows, 2):
@@ -80,7 +80,7 @@ class Refused(ProgramCase):
             self.assert_ended(self.run_line(line), 2, usage_error(text, usage))
 
     def numbers(self):
-        """A line for each number of each command, with N in its place, its name in messages, and the least and greatest."""
+        """For each numeric argument: a line with N in its place, its name in messages, its least and greatest value."""
         yield from (("range N 1 absent", "<AT>", 0, 2**63 - 1), ("range 0 N absent", "<LEN>", 0, 2**63 - 1))
         for command, rows in self.rows.items():
             for name in (name for _, name, value in rows if value == "N"):
@@ -99,7 +99,7 @@ class Refused(ProgramCase):
                     self.assertEqual(self.run_line(line).status, 1)
 
     def test_options(self):
-        """An option of another command, one that is given twice, and one without a value or with one that it does not take."""
+        """Unknown options, repeated options, missing values, and values for options that take none."""
         every = {row for rows in self.rows.values() for row in rows if row[0]}
         for command, rows in self.rows.items():
             usage, text = self.usages[command], texts_of(command)

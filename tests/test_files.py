@@ -14,7 +14,7 @@ ROLES = {"-p": "Passphrase", "-k": "Key", "-P": "NewPassphrase", "-K": "NewKey",
 
 
 def lines():
-    """Each command with each option that names a file."""
+    """Each command with each option that names a file to read."""
     yield from ("encrypt -p pass -s seed hello", "encrypt -k other.key -k key -s seed hello", "inspect -f file.key key.age")
     for secrets, source in ("-p other.pass -p pass", "pass.age"), ("-k other.key -k key", "key.age"):
         for command in ("decrypt", "range 0 5", "salvage", "rewrap -P new.pass -s seed", "rewrap -K third.key -K new.key -s seed"):
@@ -29,7 +29,7 @@ def roles(line):
 
 class Files(ProgramCase):
     def files(self):
-        """The bytes and the time of each file in the folder but that of calls.c."""
+        """The bytes and the time of each file in the folder but `met`, which calls.c makes."""
         return {entry.name: (read(entry.path), entry.stat().st_mtime_ns) for entry in os.scandir(".") if entry.is_file() and entry.name != "met"}
 
     def changes_nothing(self, name, line, **how):
@@ -49,7 +49,7 @@ class Out(Files):
 
     def test_kept(self):
         """If nothing was written, an existing OUT stays as it was, and a new one is left empty. If a secret is
-        malformed or IN cannot be opened, OUT is not created."""
+        refused or IN cannot be opened, OUT is not created."""
         def each(commands, *files):
             return [f"{command} {file}" for command in commands for file in files]
 
@@ -167,7 +167,7 @@ class Out(Files):
 
 
 class OutIsRead(Files):
-    """OUT must not be a file that is read."""
+    """OUT must not be a file that is read, but with --atomic it may be IN, except for `salvage`."""
 
     def refuses_out(self, role, out, line):
         with self.subTest(line):
@@ -194,7 +194,7 @@ class OutIsRead(Files):
             os.remove("hard")
 
     def test_two_roles(self):
-        """A file read in two roles is named by the first, IN before secrets. An empty one is refused, too."""
+        """A file read in two roles is named by the first, IN before secrets. An empty IN is refused, too."""
         write("both", b"")
         os.symlink("hello", "linked.in")
         for command in ("encrypt -k key", *OPENING):

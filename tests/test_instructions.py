@@ -10,12 +10,12 @@ import fixture
 from fixture import KEY
 from program import AGEP, ProgramCase, read, write
 
-# By the level for which the program was built; valgrind lacks x86-64-v4. Each limit is a tenth above
-# the count; another toolchain may move it.
+# The limit for a chunk, by the level for which the program was built; valgrind lacks x86-64-v4. Each
+# limit is a tenth above the count; another toolchain may change the count.
 CHUNK = {"x86-64-v2": 1_040_000, "x86-64-v3": 348_000}
-# The header of a keyed file, and the nonce after it.
+# The size of a keyed file's header with the nonce after it.
 FRONT = 172
-# Instructions of scrypt for each KiB of its memory.
+# The limit for each KiB of scrypt's memory.
 KIB = {"x86-64-v2": 12_700, "x86-64-v3": 10_200}
 
 
@@ -48,8 +48,8 @@ class Instructions(ProgramCase):
                 self.assertGreater(two - one, 65536)
 
     def test_short_text(self):
-        """400 bytes go through the lanes: they cost less than 128 bytes, which are two single blocks, and three
-        such blocks more."""
+        """400 bytes go through the lanes: they cost less than 128 bytes, two single blocks, and
+        three more blocks at the cost of the second."""
         counts = []
         for size in (64, 128, 400):
             write("short", bytes(size))
@@ -60,7 +60,7 @@ class Instructions(ProgramCase):
 
     def test_lost_chunk(self):
         """A lost chunk that is not the last is tried with both flags. decrypt shows the cost of one attempt; writing zeros costs
-        less than one."""
+        less than one attempt."""
         counts = []
         for size, command in ((1, "decrypt"), (65536, "decrypt"), (65536, "salvage"), (131072, "salvage")):
             file = fixture.for_keys(bytes(size), KEY)

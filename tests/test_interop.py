@@ -1,5 +1,5 @@
-"""Files exchanged between the program and the tool `age`, if that is installed. The tests of the libraries show
-that those make the same files."""
+"""Files exchanged between the program and the tool `age`, if that is installed. The tests of the libraries
+exchange files between the libraries and the program."""
 
 import os
 import re

@@ -1,5 +1,5 @@
 """The builds for the levels of processor beyond the first, as ./package --build keeps them: files that cross
-between them and the first, the test vectors, and texts that OpenSSL seals, too. A level that this machine's
+between them and the first, the test vectors, and texts sealed as by OpenSSL. A level that this machine's
 processor lacks is skipped."""
 
 import ctypes
@@ -20,7 +20,7 @@ try:
 except ImportError:
     ChaCha20Poly1305 = None
 
-# The cipher takes pieces of 1,024 and 512 bytes; a rest above 128 bytes as 512, others by blocks of 64.
+# The cipher takes 1,024 or 512 bytes at once, a rest above 128 like 512, a shorter one by 64 bytes.
 EDGES = (64, 256, 320, 512, 1024, 2048, 65536)
 SIZES = (0, 1, *(edge + more for edge in EDGES for more in (-1, 0, 1)), 131073, 200000)
 PLAIN = b"".join(b"%d\n" % i for i in range(1, 100001))[: SIZES[-1]]
@@ -29,7 +29,7 @@ MOST = 140_000
 
 @functools.cache
 def expected(size):
-    """What Python seals by the RFCs."""
+    """The keyed file of a plaintext of this size, as reference.py makes it."""
     return fixture.for_keys(PLAIN[:size], fixture.KEY)
 
 

@@ -1,5 +1,5 @@
 """Tests of the built libraries with each allocation refused in turn: scrypt, the calls in steps, and ranges.
-Each call succeeds or returns out of memory."""
+Each call succeeds or returns out of memory, or a failed write if the sink's own memory was refused."""
 
 import os
 import subprocess
@@ -10,7 +10,7 @@ from program import ROOT, preload, scratch
 
 class RefusedAllocations(unittest.TestCase):
     def each_refusal(self, crate, name, least):
-        """Runs a test of a crate until a run has no refused allocation; at least so many runs must have one."""
+        """Runs a test of a crate until a run has no refused allocation; at least `least` runs must have one."""
         tests = f"{ROOT}/crates/{crate}/out/{crate}_tests"
         folder = scratch()
         if not os.access(tests, os.X_OK):
@@ -30,5 +30,5 @@ class RefusedAllocations(unittest.TestCase):
         self.each_refusal("age_tests", "kdf::scrypt_whole_or_out_of_memory", 1)
 
     def test_steps_and_ranges(self):
-        """age_file: steps and ranges succeed or are out of memory."""
+        """age_file: steps and ranges succeed, are out of memory, or fail to write into memory."""
         self.each_refusal("age_tests", "file::failing::whole_or_out_of_memory", 20)

@@ -1,5 +1,5 @@
-"""Builds and installs the library for C, and runs it from C under sanitizers: its names, its codes, its
-calls, refused allocations, threads, memory, and files exchanged with the program.
+"""Builds and installs the library for C, and runs it from C, often under sanitizers, and from Python:
+names, codes, calls, refused allocations, threads, memory, and files exchanged with the program.
 tests/test_packages.py runs the packages for Python and Rust over it."""
 
 import functools
@@ -35,7 +35,7 @@ SONAME = "libagefile.so.1"
 WARNINGS = ("-Wall", "-Wextra", "-Wpedantic", "-Werror")
 REFUSING = ("-Wl,--wrap=malloc,--wrap=realloc,--wrap=free",)
 SIZES = (0, 1, 65535, 65536, 65537, 131072, 131073, 200000)
-# A program of the loop in docs/C.md, with a key and a file key of zeros.
+# The main function for the loop in docs/C.md, with a key, a file key, a nonce and a salt of zeros.
 AROUND_THE_LOOP = """
 int main(void)
 {
@@ -128,8 +128,8 @@ def archive():
 
 
 def saving(level):
-    """The flags of a C compiler for a system that saves the registers of this level alone. With only the first flag,
-    a program asks the variable SAVED."""
+    """The flags of a C compiler for a system that saves the registers up to this level and no others. With only the
+    first flag, a program takes the registers from the environment variable SAVED."""
     (work() / "saving.h").write_text(
         '#include <immintrin.h>\n#include <stdlib.h>\n#ifndef SAVED\n#define SAVED strtoul(getenv("SAVED"), NULL, 10)\n#endif\n'
         "#define _xgetbv(number) (0 * (number) + SAVED)\n"
@@ -174,7 +174,7 @@ def sanitizers():
 
 @functools.cache
 def built(name, *flags, source=None, compiler="cc", library=None):
-    """Builds a program of tests/library/ without a warning; `name` is its name here."""
+    """Builds a program, by default tests/library/NAME.c. A warning fails the test."""
     source = source or TESTS / f"{name}.c"
     made = work() / "-".join([name, compiler, *re.findall(r"\w+", "".join(map(str, flags + (library or ()))))])[:200]
     language = ("-x", "c++", "-std=c++11") if compiler == "c++" else ()
@@ -207,7 +207,7 @@ class Installing(unittest.TestCase):
         self.assertIn(f"#define AGEFILE_VERSION 0x{major:02x}{minor:02x}{patch:02x} ", HEADER.read_text())
 
     def test_uninstalling(self):
-        """--uninstall removes only these files, and the folder lib/pkgconfig, which this leaves empty."""
+        """--uninstall removes only the library's files, and lib/pkgconfig if that is then empty."""
         other = work() / "other"
         shutil.copytree(prefix(), other, symlinks=True)
         self.assertEqual(run(ROOT / "install", "--library", "--uninstall", other, status=0).stderr, b"")
@@ -268,7 +268,7 @@ class Folders(unittest.TestCase):
         return run(ROOT / "install", "--library", "--libdir=lib/x86_64-linux-gnu", *words, "/usr", env=self.environment, status=0)
 
     def test_folders(self):
-        """DESTDIR and --libdir: the files, and an earlier library that the loader would prefer."""
+        """DESTDIR and --libdir; an earlier library that the loader would prefer is removed."""
         folder = "lib/x86_64-linux-gnu"
         second = self.libraries / "glibc-hwcaps/x86-64-v3" / SONAME
         for uninstalled in (False, True):
@@ -296,7 +296,7 @@ class Processors(unittest.TestCase):
         return built("passed", *flags, f"-I{texts()}", "-Wno-unused-parameter", library=(ROOT / "bindings/c/agefile.c",))
 
     def printed(self, level):
-        """What it prints. Nine functions get data: a chunk, a file or a plaintext."""
+        """The output of `passed`. Nine functions get data: a chunk, a file or a plaintext."""
         return f"{min(level, LEVELS[1])}, {9 * (level == LEVELS[2])}\n"
 
     def test_this_processor(self):
@@ -313,7 +313,7 @@ class Processors(unittest.TestCase):
             self.assertEqual(said(program, env=os.environ | {"SAVED": str(saved)}), self.printed(fitting[-1]), saved)
 
     def test_parts(self):
-        """The build for x86-64-v4 is called only if no part of that level is missing. No emulator has them."""
+        """Without a part of x86-64-v4 the build for that level is not called. QEMU lacks these parts."""
         parts = "F BW CD DQ VL".split()
         (work() / "lacking.h").write_text(
             "#include <cpuid.h>\n#include <stdlib.h>\n"
@@ -346,7 +346,7 @@ class Processors(unittest.TestCase):
 
 
 def with_pkg_config(name, libraries):
-    """The example, linked with the shared library in a folder."""
+    """The example stream.c, linked with the shared library in a folder."""
     if shutil.which("pkg-config"):
         flags = said("pkg-config", "--cflags", "--libs", "agefile", env=os.environ | {"PKG_CONFIG_PATH": str(libraries / "pkgconfig")}).split()
     else:
@@ -365,7 +365,7 @@ def opened_by(stream, file):
 
 class Languages(unittest.TestCase):
     def test_standards(self):
-        """The header compiles as C99, C11, C17 and C++ from 98 to 20, and programs link."""
+        """The header compiles as C99, C11, C17, C++98, C++11 and C++20, and programs link."""
         for compiler in compilers():
             plus = compiler.endswith("++")
             for standard in ("c++98", "c++11", "c++20") if plus else ("c99", "c11", "c17"):
@@ -376,7 +376,7 @@ class Languages(unittest.TestCase):
 
 
     def test_examples(self):
-        """The examples compile as C99, C11 and C17, too, where a header declares only what is asked for."""
+        """The examples compile as C99, C11 and C17, too, where libc declares only what macros ask for."""
         for compiler in (name for name in compilers() if not name.endswith("++")):
             for standard in ("c99", "c11", "c17"):
                 for source in sorted(EXAMPLES.glob("*.c")):
@@ -431,7 +431,7 @@ class Diagnoses(unittest.TestCase):
         return done.stderr.decode()
 
     def test_diagnoses(self):
-        """Ignored results, null pointers without a length, and short keys are warnings."""
+        """Ignored results, null pointers without a length, and short keys in C are warnings."""
         whole = "agefile_decrypt_key(front, 9, key, front, 9, &report)"
         for compiler in compilers():
             with self.subTest(compiler):
@@ -448,7 +448,7 @@ class Diagnoses(unittest.TestCase):
 
 
 def number_in(name, constant):
-    """The number of the constant with this name in a file in C, Rust or Python."""
+    """The number of the constant with this name in a file in C, Rattle, Rust or Python."""
     found = re.search(rf"^(?:#define |(?:pub(?:\(crate\))? )?const )?{constant}(?:: \w+)?(?: =)? (\d[\d_]*)\b", (ROOT / name).read_text(), re.M)
     return int(found[1].replace("_", ""))
 
@@ -466,7 +466,7 @@ class Constants(unittest.TestCase):
         self.assertEqual(parts, list(range(1, max(6, len(parts) + 1))))
 
     def test_unknown_codes(self):
-        """convert prints the message of each code and detail up to the first one without, and succeeds only
+        """convert prints the messages of codes and details before the first default one, and succeeds only
         if code 2^32 - 1 and the details 0 and 2^64 - 1 have the default message."""
         lines = said(built("convert"), "messages").splitlines()
         faults = [f"{fault.code} {fault.message}" for fault in codes.faults(ROOT)]
@@ -498,13 +498,13 @@ class Calls(unittest.TestCase):
         return built("driver", *flags, *REFUSING, f"-I{texts()}", library=library)
 
     def test_random_calls(self):
-        """By each build, under sanitizers and on small stacks."""
+        """Random calls by each build, under sanitizers and on small stacks."""
         libraries = each_build().values()
         self.agree(RANDOM_CALLS, *(self.driver(*flags, library=library) for flags in {sanitizers(), ("-O2",)} for library in libraries))
 
     @needs("qemu-x86_64")
     def test_older_processors(self):
-        """Where an instruction of x86-64-v3 ends the program."""
+        """On an emulated processor, where an instruction of x86-64-v3 ends the program."""
         stand_in.tool(work() / "emulated", f"exec qemu-x86_64 -cpu Nehalem {self.driver('-O1')}")
         self.agree(100, work() / "emulated")
 
@@ -566,7 +566,7 @@ class WithTheProgram(unittest.TestCase):
                         self.assertEqual(self.agep("decrypt", *secret, input=fresh, status=0).stdout, plain, kind)
 
     def test_examples(self):
-        """stream.c and parallel.c make and open the files of agep."""
+        """agep opens files of both examples; stream.c opens those of agep, parallel.c its own."""
         stream = built("stream", *sanitizers(), source=EXAMPLES / "stream.c")
         parallel = built("parallel", "-O2", source=EXAMPLES / "parallel.c")
         for size in SIZES:
@@ -583,7 +583,7 @@ class WithTheProgram(unittest.TestCase):
                     self.assertEqual((work() / "back").read_bytes(), plain)
 
     def test_files_that_parallel_refuses(self):
-        """No file is lost, and none is made from a part of IN."""
+        """No file is lost, and no run that takes only a part of IN has status 0."""
         parallel = built("parallel", "-O2", source=EXAMPLES / "parallel.c")
         (work() / "keep").write_bytes(self.agep("encrypt", "-k", "key", input=b"text", status=0).stdout)
         (work() / "key.other").write_bytes(os.urandom(32))
@@ -616,14 +616,14 @@ class WithTheProgram(unittest.TestCase):
             self.assertEqual((done.stdout, done.stderr), (b"", b"passphrase is empty 0\n"))
 
     def test_a_file_for_another(self):
-        """The example reports the wrong key."""
+        """stream.c reports the wrong key."""
         (work() / "key.other").write_bytes(os.urandom(32))
         other = self.agep("encrypt", "-k", "key.other", input=b"text", status=0).stdout
         done = run(built("stream", *sanitizers(), source=EXAMPLES / "stream.c"), work() / "key", input=other, status=1)
         self.assertEqual((done.stdout, done.stderr), (b"", f"stream: {message('WrongKey')} (0)\n".encode()))
 
     def test_inputs_that_fail(self):
-        """The example makes no file if its input fails midway, or is a folder."""
+        """stream.c makes no file if its input fails midway, or is a folder."""
         stream = built("stream", *sanitizers(), source=EXAMPLES / "stream.c")
         folder = os.open(work(), os.O_RDONLY)
         self.addCleanup(os.close, folder)
@@ -657,7 +657,7 @@ class WithTheProgram(unittest.TestCase):
             self.assertEqual(self.convert(kind, "decrypt", "-p", "pass", input=file, status=0).stdout, fixture.HELLO)
 
     def test_memory(self):
-        """1 GiB through the example and back takes at most 4 MiB of memory."""
+        """1 GiB through stream.c and back takes at most 4 MiB of memory in each process."""
         stream, peak = with_pkg_config("stream_shared", prefix() / "lib"), built("peak", "-O2")
         words = f"head -c 1073741824 /dev/zero | {peak} sealing {stream} -e key | {peak} opening {stream} key | cmp - <(head -c 1073741824 /dev/zero)"
         run("bash", "-o", "pipefail", "-c", words, cwd=work(), status=0)
@@ -667,7 +667,7 @@ class WithTheProgram(unittest.TestCase):
 
 class Vectors(unittest.TestCase):
     def test_calls(self):
-        """Each call in Python and in C returns what each test vector and each damaged file says."""
+        """Each way to open files in Python and C gives what test vectors and damaged files say."""
         ways = testkit.library_ways(prefix(), built("convert", "-O2"))
         if testkit.x25519() is None:
             print("skipped: test vectors for X25519: Python's package cryptography is missing")

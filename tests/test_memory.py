@@ -1,5 +1,5 @@
-"""Each allocation is refused in turn. Such a run prints out of memory and nothing else, or manages with less
-memory and gives the usual result. So does the last run, in which no allocation is refused."""
+"""Each allocation is refused in turn. Without -v such a run prints out of memory and nothing else, or
+manages with less memory and gives the usual result, as does the last run, which has no refusal."""
 
 import os
 
@@ -31,7 +31,7 @@ class Allocations(ProgramCase):
         self.fail("no end of allocations")
 
     def test_each_command(self):
-        """Out of memory, or the usual result, but only once: without the space for all arguments, their list grows."""
+        """Out of memory, unless only the space for all arguments is refused: then their list grows as it is needed."""
         for words in COMMANDS:
             with self.subTest(words):
                 usual = self.run_agep(*words.split())
@@ -58,7 +58,7 @@ class Allocations(ProgramCase):
                 self.assert_ended(ran, int(ends[0] != ""), *ends)
 
     def test_explained(self):
-        """With -v: out of memory, also in place of a line, or the usual result."""
+        """With -v: out of memory instead of the first line, the second or both, or a usual run."""
         line, more = message("NoMatch"), "pass.age: not opened by key file key"
         full = fault(line, more).encode()
         refusal = message("OutOfMemory")

@@ -1,5 +1,5 @@
 """Compares the messages in docs/FORMAT.md and tests/messages.txt, which are written by hand, with the texts
-in the code, and with pages that repeat a message and are not run."""
+in the code and the manual page, and the texts in the code with the table of messages in docs/USE.md."""
 
 import glob
 import itertools
@@ -29,12 +29,12 @@ def numbered(text):
 
 
 FAULTS = ("age_file/src/fault.rt", "age_job/src/fault.rt")
-# agep encrypts to one recipient, which refuses nothing, and no disk holds 2^88 chunks.
+# Not returned by agep: it has one recipient, which refuses nothing, and no disk holds 2^88 chunks.
 NOT_BY_AGEP = {"NoRecipients", "Refused", "IncompatibleRecipients", "TooManyChunks"}
 
 
 def source(name):
-    """The text of a file of the crates. A string that goes on in the next line is one line."""
+    """The text of a file of the crates. A string of several lines is joined into one."""
     return re.sub(r"\\\n *", "", text_of(f"{ROOT}/crates/{name}"))
 
 
@@ -46,14 +46,14 @@ def texts_of_faults(*files):
 
 
 def texts_of_code():
-    """The names and texts of the faults, of their parts, and of the roles of files."""
+    """The names and texts of the faults, of the parts of a stanza, and of the roles of files."""
     yield from texts_of_faults(*FAULTS, "age_recipient/src/unwrapped.rt")
     for name, text in re.findall(r'Role::(\w+) => "(.*)"', source("age_job/src/file_names.rt")):
         yield name, text if name == "Input" else f"the {text}"
 
 
 def without_example(line):
-    """The second line of an error without the name of the file, and with N for each number."""
+    """The second line of an error after the name of the file, with N for each number."""
     line = re.sub("^2> agep: ", "", line).replace("\\-", "-").replace("\n", " ").strip()
     return re.sub(r"\d+", "N", re.sub("^IN: .*|^([a-z ]+ )?[^ ]+: ", "", line))
 
@@ -77,7 +77,7 @@ class Code(unittest.TestCase):
 
 class Page(unittest.TestCase):
     def test_each_message_is_explained(self):
-        """docs/USE.md has a row for each message: faults that agep may return, lines about lost chunks, and those of
+        """docs/USE.md has a row for each message: faults that agep may return, lines of salvage, and those of
         main.rt."""
         table = text_of(ROOT + "/docs/USE.md").split("\n## Messages\n")[1]
         explained = re.findall(r"`(.*?)`", "".join(re.findall(r"^\| (`.*?) \| ", table, re.MULTILINE)))

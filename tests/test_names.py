@@ -26,7 +26,7 @@ class Names(ProgramCase):
             os.remove(NAME)
 
     def test_each(self):
-        """A single control character, and all of them, in the name of a file that cannot be opened."""
+        """Control characters in the name of an absent file are escaped, and printable ones are not."""
         rows = [(NAME, SHOWN), (NAME[::-1], "".join(map(escaped, CONTROLS[::-1])))]
         rows += [(f"a{chr(code)}", f"a{escaped(code)}") for code in CONTROLS]
         plain = [code for code in range(32, 127) if chr(code) != "/"] + [160, 161, 255, 0x2192, 0x1F986]
@@ -36,7 +36,7 @@ class Names(ProgramCase):
                 self.says(message("CannotOpen", shown), "inspect", name)
 
     def test_second_lines(self):
-        """All control characters in each kind of second line: NAME is absent, a file of this content or a link to this name."""
+        """Second lines, and OutputIsRead, with all control characters: NAME is absent, or `made` is its bytes or target."""
         size = "6 bytes; a key file holds 32 raw bytes, not hexadecimal"
         damaged = fixture.changed(read("key.age"), -1)
         for made, words, line, more in (

@@ -1,10 +1,10 @@
 #!/usr/bin/env python3
-"""Each cell of new_file.py, with the program and with the package for Python.
+"""Tries cells of new_file.py: those of the program, and for test_library.py those of Python.
 
 usage: tests/test_new_file.py [WORD..]     prints the cells with these words that differ
 
-The workers run with calls.c preloaded, as nobody, because root may do everything. The program and the forked
-child that calls the package inherit this, so the same calls fail in both."""
+The workers run with calls.c preloaded and, if root starts them, as nobody, because root may do everything.
+The program and the forked child that calls the package inherit this, so the same calls fail in both."""
 
 import contextlib
 import fcntl
@@ -26,11 +26,11 @@ from program import read, write
 
 TRIED = os.environ.get("TRIED", program.AGEP)
 SAVED = PLAIN[:131072] + bytes(len(PLAIN) - 131072)
-# The keys for which jobs seal, and words of the program.
+# The key for which each job seals, and the further arguments of the program.
 SEALS = {"encrypt": KEY, "open": KEY, "rewrap": NEW_KEY}
 WORDS = {"encrypt": ("-s", "seed"), "rewrap": ("-K", "new.key", "-s", "seed"), "range": ("0", str(len(PLAIN)))}
 MODES = {"usual": 0o755, "unwritable": 0o555, "unreadable": 0o333}
-# How OUT and OUT.agep-new are made; any other is a file with the text "old".
+# How OUT and OUT.agep-new are made; a kind that is not here is a file with the text "old".
 MAKES = {
     **dict.fromkeys(("absent", "null", "full"), lambda name: None), "empty": lambda name: write(name, b""),
     "fifo": os.mkfifo, "folder": os.mkdir, "dangling": lambda name: os.symlink("nowhere", name),
@@ -82,7 +82,7 @@ class Place:
         self.before = self.look()
 
     def look(self):
-        """What OUT has, which file OUT.agep-new is, and each other file with its bytes."""
+        """What OUT has, which file OUT.agep-new is, and all other files: their bytes or targets."""
         if self.pipe:
             text = b"".join(iter(lambda: self.pipe.read(1 << 20) or b"", b""))
         else:
@@ -135,7 +135,7 @@ def ran(c, place, env):
             by_python(c, place)
         except Exception as error:
             print(type(error).__mro__, error, file=sys.stderr)
-        # _exit loses what is left in a buffer of the caller's.
+        # The package must have flushed a buffer of the caller: _exit loses what is left in it.
         sys.exit() if c.end in new_file.GIVEN_UP else os._exit(0)
     os.close(told_out)
     with open(told_in) as file:
@@ -176,7 +176,7 @@ def write_in_python(c, file):
 
 
 def environment(c, place):
-    """What makes the end of a cell come."""
+    """The variables by which calls.c brings about the end of a cell."""
     how, *call = c.end.split()
     if how in ("early", "late") and c.job != "open":
         return {"BAD": f"{0 if how == 'early' else 135000} 200000"}
@@ -208,7 +208,7 @@ def chosen(words):
 
 
 def work(home, at, *words):
-    """Tries every AT_A_TIME-th cell, from this one on. Prints those that differ, and then how many it tried."""
+    """Tries every AT_A_TIME-th cell, from number `at` on. Prints those that differ, then how many it tried."""
     os.umask(0o022)
     if os.geteuid() == 0:
         os.setgroups([]), os.setgid(65534), os.setuid(65534)
@@ -217,7 +217,7 @@ def work(home, at, *words):
         name = f"{home}/{at}.{count}"
         os.mkdir(name)
         os.chdir(name)
-        # A job that waits for ever ends its worker.
+        # This ends a worker whose job waits for ever.
         signal.alarm(600)
         if how := tried(c):
             print(*c, "::", "; ".join(how).replace("\n", " "), flush=True)
@@ -232,7 +232,7 @@ def differing(*words):
     how = {"env": {**os.environ, "LD_PRELOAD": library}, "stdin": subprocess.DEVNULL, "stdout": subprocess.PIPE, "text": True}
     started = [[sys.executable, __file__, "--work", home, str(at), *words] for at in range(program.AT_A_TIME)]
     lines = [each.communicate()[0].splitlines() for each in [subprocess.Popen(it, **how) for it in started]]
-    # One that ends early has no number in its last line.
+    # A worker that ends early prints no count as its last line.
     if sum(int(each.pop()) for each in lines) != len(chosen(words)):
         raise AssertionError("not all cells were tried")
     return sum(lines, [])

@@ -12,7 +12,7 @@ from messages import message
 from program import AGEP, BY_PASSPHRASE, ProgramCase, preload, read, write
 from test_headers import ZERO_MAC, ZERO_SALT, header_in, header_of, table
 
-# Less than scrypt needs for work factor 18, so an accepted work factor ends with out of memory.
+# Less than scrypt needs from work factor 17 on, so accepting such a factor ends with out of memory.
 LITTLE_MEMORY = 100000 * 1024
 CHUNK = reference.CHUNK
 
@@ -166,8 +166,8 @@ def skip_unless_holes(*names):
 
 
 class Offsets(ProgramCase):
-    """A file whose chunks are a hole, except for those on both sides of the 2^32nd and of the 2^33rd byte of
-    the plaintext, and the last one. Its plaintext has 2^33 + 65,636 bytes."""
+    """A file whose chunks are holes, except for those before and after the offsets 2^32 and 2^33 of the
+    plaintext, and the last one. Its plaintext has 2^33 + 65,636 bytes."""
 
     END = 2**33 + CHUNK + 100
 
@@ -208,7 +208,7 @@ class Offsets(ProgramCase):
                 self.writes(self.text(at, size), "range", "-k", "key", str(at), str(size), "great.age")
 
     def test_behind_the_end(self):
-        """There are no bytes after the end."""
+        """A range after the end is empty."""
         for at in (self.END, self.END + 1, self.END + 2**32, 2**62, 2**62 + 2**32, 2**63 - 1):
             for size in (1, 2**32, 2**62):
                 with self.subTest(f"{size} bytes from {at} on"):

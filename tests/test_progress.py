@@ -13,8 +13,8 @@ from terminal import Terminal
 ERASE, CUT, WRAP = "\r\x1b[K", "\x1b[?7l", "\x1b[?7h"
 MANY = b"".join(b"%d\n" % i for i in range(1, 100001))[:450000]
 KEY_FRONT = 172
-# The size in KiB, and the lines for a pipe and for a file: how much was read, how fast, and the
-# seconds that are left.
+# The size in KiB, and the line for a pipe: how much was read, and how fast. The line for a file
+# also has the size and the seconds that are left.
 SIZE = 439
 PIPE = r"agep: (\d+) KiB, (\d+) KiB/s"
 FILE = rf"agep: (\d+) KiB of {SIZE} KiB, (\d+) KiB/s, (\d+) s left"
@@ -34,8 +34,8 @@ class Progress(ProgramCase):
         return Terminal(AGEP, *line.split(), streams=["stderr"], stdin=pipe, stdout=pipe, env=env).ended(input)
 
     def assert_drawn(self, said, line, look=500, last=""):
-        """Whether the line was drawn, at most twice a second, and erased before the last output. The clock starts
-        at its second look, after 128 to 255 KiB."""
+        """Checks that the line was drawn, at most twice a second, and erased before the last output. The rate
+        counts from the second look at the clock while IN is read, after 128 to 255 KiB."""
         self.assertEqual(said[len(said) - len(ERASE + last) :], ERASE + last)
         first, *drawn = said[: len(said) - len(ERASE + last)].split(ERASE)
         self.assertEqual(first, "")
@@ -54,7 +54,7 @@ class Progress(ProgramCase):
             before = done
 
     def test_drawn(self):
-        """It shows how much was read, and how fast; for a file also the size and the time that is left."""
+        """The line shows how much was read, and how fast; for a file also the size and the time left."""
         for look in (500, 300, 3000):
             with self.subTest(look):
                 status, out, said = self.at_terminal("encrypt -v -k key -s seed", MANY, look=look)
@@ -65,7 +65,7 @@ class Progress(ProgramCase):
                 self.assert_drawn(said, FILE, look)
 
     def test_units(self):
-        """From 10 MiB on it shows MiB."""
+        """From 10 MiB on, amounts are in MiB."""
         said = self.at_terminal("encrypt -v -k key", bytes(18 << 20), look=20)[2]
         amounts = re.findall(r"agep: (\d+) (KiB|MiB), (\d+) (KiB|MiB)/s", said)
         self.assertEqual({unit for _, unit, *_ in amounts}, {"KiB", "MiB"})
@@ -73,21 +73,21 @@ class Progress(ProgramCase):
             self.assertIn(int(number), range(10, 19) if unit == "MiB" else range(10240))
 
     def test_range(self):
-        """For a range, which reads a part of the file, it does not show the size."""
+        """For a range, which reads a part of the file, the line does not show the size."""
         status, out, said = self.at_terminal(f"range -v -k key 0 {len(MANY)} many.age")
         self.assertEqual((status, out), (0, MANY))
         self.assertIn(ERASE, said)
         self.assertNotIn(" of ", said)
 
     def test_fault(self):
-        """It is erased before the message about a fault."""
+        """The line is erased before the message about a fault."""
         write("damaged", fixture.changed(read("many.age"), -1))
         status, out, said = self.at_terminal("decrypt -v -k key damaged")
         self.assertEqual((status, out), (1, MANY[:393216]))
         self.assert_drawn(said, FILE, last=fault(message("BadChunk", 6), "IN: damaged"))
 
     def test_lost(self):
-        """A line about a lost chunk replaces it; of seven chunks, 1 and 4 are lost."""
+        """A message about a lost chunk replaces the line; of seven chunks, 1 and 4 are lost."""
         text = fixture.changed(read("many.age"), KEY_FRONT + 65552)
         write("damaged", fixture.changed(text, KEY_FRONT + 4 * 65552))
         status, out, said = self.at_terminal("salvage -v -k key damaged")
@@ -111,7 +111,7 @@ class Progress(ProgramCase):
                 self.assertEqual(ran.ended(), (1, last))
 
     def test_passphrase(self):
-        """While scrypt runs, it says so."""
+        """While scrypt runs, the line says so."""
         for line, out in (
             ("decrypt -v -p pass pass.age", HELLO), ("range -v -p pass 0 9 pass.age", HELLO), ("rewrap -v -p pass -K key -s seed pass.age", read("key.age")),
             ("encrypt -v -p pass -s seed -w 10 hello", read("pass.age")), ("rewrap -v -k key -P pass -s seed -w 10 key.age", read("pass.age")),
@@ -121,8 +121,8 @@ class Progress(ProgramCase):
                 self.assertEqual(self.at_terminal(line), (0, out, said))
 
     def test_none(self):
-        """Nothing is shown without -v, for a small file, or if standard error is not a terminal. A terminal without
-        escape sequences gets none."""
+        """Nothing is shown without -v, for a small file, or if standard error is not a terminal. With TERM=dumb the
+        terminal gets no escape sequence."""
         for line, plain, term in ("decrypt -k key many.age", MANY, "xterm"), ("decrypt -v -k key key.age", HELLO, "xterm"), ("decrypt -v -k key many.age", MANY, "dumb"):
             with self.subTest(line):
                 self.assertEqual(self.at_terminal(line, term=term), (0, plain, ""))
@@ -136,7 +136,7 @@ class Progress(ProgramCase):
                 self.assertIn(ERASE, self.at_terminal("decrypt -v -k key many.age", term=term)[2])
 
     def test_out(self):
-        """Nothing is shown if OUT is a terminal by any name: it gets only the plaintext. With another OUT the line is shown."""
+        """The line is shown if OUT is /dev/null or a new file; a terminal, by any name, gets only the plaintext."""
         os.symlink("/dev/tty", "link")
         for name, shows in (("/dev/tty", False), ("/dev/stderr", False), ("link", False), ("/dev/null", True), ("made", True)):
             with self.subTest(name):

@@ -1,7 +1,7 @@
-"""The recipes of docs/USE.md that a transcript cannot run: the crontab and the service of systemd, with the
-program as ./install installs it, in an environment like theirs; passphrases typed at a terminal, also by the
-lines of README.md and the manual page; databases; files of other programs. The commands of CONTRIBUTING.md for
-one crate."""
+"""Recipes of docs/USE.md, most of them in no transcript: the crontab and the service of systemd, with the
+program as ./install installs it, in an environment like theirs; passphrases typed at a terminal, also for
+lines of README.md and the manual page; databases; files of other programs; lost first sectors. Also checks
+that a test uses each block of a page, and runs the commands of CONTRIBUTING.md for one crate."""
 
 import base64
 import contextlib
@@ -21,7 +21,7 @@ from program import AGEP, ROOT, ProgramCase, made_once, read, scratch, write
 from terminal import Terminal
 
 PASSPHRASE = b"correct horse\n"
-# Of sudo, what the lines depend on: it closes all but the standard streams.
+# A stand-in for sudo, which closes all but the standard streams, so that `<(..)` cannot be passed.
 SUDO = b"#!/usr/bin/python3\nimport os, sys\nos.closerange(3, 1024)\nos.execvp(sys.argv[1], sys.argv[1:])\n"
 
 
@@ -61,8 +61,8 @@ def run(line, **environment):
     ).stdout
 
 
-# For each block of a page, in order: its language, and the test that runs it. tests/cli.sh
-# runs the blocks `console` of README.md and docs/USE.md.
+# For each page its blocks, in order: the language, and the test that runs the block or a part of
+# it, or looks up its names. For the blocks `console` of README.md and docs/USE.md see tests/cli.sh.
 RUN_BY = {
     "README.md": ("sh test_packages.Packages.test_the_wheel", "sh Typed.test_lines", "python test_library.Document.test_python"),
     "docs/USE.md": ("sh Blocks.test_secrets", "sh Typed.test_lines", "crontab Cron.test_backup", "ini Systemd.test_service",
@@ -78,7 +78,7 @@ RUN_BY = {
 
 class Blocks(unittest.TestCase):
     def test_each_runs(self):
-        """A transcript or a test runs each block of each page, but not those in Rattle, of proofs or without a
+        """A transcript or a test uses each block of each page, but not those in Rattle, of proofs or without a
         language: they are not commands, or they need podman, as their page says."""
         pages = glob.glob(f"{ROOT}/*.md") + glob.glob(f"{ROOT}/*/*.md")
         for page in sorted({*RUN_BY, *(os.path.relpath(name, ROOT) for name in pages)}):
@@ -133,7 +133,7 @@ class Cron(unittest.TestCase):
         self.assertEqual(opened, text)
 
     def test_backup(self):
-        """It prints nothing, and the backup contains the file."""
+        """The job prints nothing, and the backup contains the file."""
         self.says("")
         self.assert_backup(b"text")
 
@@ -156,7 +156,7 @@ class Cron(unittest.TestCase):
         self.assertEqual(read("data.age"), b"old")
 
     def start_half(self):
-        """Starts a run, which has sent a part of the archive to agep."""
+        """Starts a run, and waits until it has sent a part of the archive to agep."""
         self.replace_tar("head -c 1000000 /dev/zero", "echo >half", "exec sleep 6000")
         job = subprocess.Popen(["/bin/sh", "-c", self.job], env=self.environment(), stdin=subprocess.DEVNULL, stderr=subprocess.DEVNULL, start_new_session=True)
         while not os.path.exists("half"):
@@ -190,7 +190,7 @@ class Cron(unittest.TestCase):
 
 
 class Typed(ProgramCase):
-    """The lines that ask for a passphrase; the new one is one that a shell or a careless `read` would change."""
+    """The lines that ask for a passphrase. A shell or a careless `read` would change the new passphrase."""
 
     OLD, NEW = fixture.PASSPHRASE, b"  new \\horse$( "
 
@@ -315,7 +315,7 @@ class Typed(ProgramCase):
 
 # Where Debian puts the programs of the server.
 SERVER = [os.path.dirname(name) for name in sorted(glob.glob("/usr/lib/postgresql/*/bin/initdb"))]
-# Rows that end in a long text, because a part of one is a row too.
+# The rows of `pay` end in a long text, so that most rows that are cut are valid rows, too.
 TABLES = """
 create table pay (id int primary key, name text);
 insert into pay select i, 'é' || repeat(md5(i::text), 10) from generate_series(1, 20000) i;
@@ -325,19 +325,19 @@ insert into small values (1, 'one'), (2, E'two\\ttabs\\n');
 
 
 def spoiled(file):
-    """The bytes of a file with a damaged chunk, and of one that is cut."""
+    """The bytes of a file, once with a damaged chunk and once cut."""
     at = len(file) * 2 // 3
     return {"damaged": file[:at] + bytes([file[at] ^ 1]) + file[at + 1 :], "cut": file[:at]}
 
 
 def into_copy(line):
-    """A line that restores the database `shop`, for `copy`."""
+    """The line, with the database `copy` in place of `shop`."""
     return re.sub(" shop$", " copy", line)
 
 
 @unittest.skipUnless(SERVER, "postgresql is missing")
 class Database(unittest.TestCase):
-    """The lines for PostgreSQL. Its server refuses to run as root, so another user runs them all."""
+    """The lines for PostgreSQL. Its server refuses to run as root, so root runs them as nobody."""
 
     @classmethod
     def setUpClass(cls):
@@ -369,7 +369,7 @@ class Database(unittest.TestCase):
 
     @contextlib.contextmanager
     def server(self, data, *more):
-        """Runs the server on this folder: its log until it is ready, or has ended."""
+        """Runs the server on this folder, and yields its log until it is ready or has ended."""
         settings = ("-k", self.folder, "-c", "listen_addresses=", "-c", "fsync=off", "-c", "hot_standby=off", *more)
         words = ["timeout", "-s", "QUIT", "300", "postgres", "-D", data, *settings]
         with subprocess.Popen(words, stderr=subprocess.PIPE, **self.how) as process:
@@ -427,7 +427,7 @@ class Database(unittest.TestCase):
             self.assertEqual(self.rows("copy", "small"), self.rows("shop", "small"))
 
     def test_one_table(self):
-        """One table of a dump is restored by a range, and nothing of it if it is damaged."""
+        """One table of a dump is restored by a range, and no row if the dump is damaged or cut."""
         with self.shop():
             self.does(self.tar)
             names = dict(re.findall(r"^COPY public\.(\w+) .*/(\d+\.dat)';$", self.does(self.names), re.MULTILINE))
@@ -450,8 +450,8 @@ class Database(unittest.TestCase):
                     self.assertEqual(self.rows("copy", "pay"), [])
 
     def test_log(self):
-        """PostgreSQL archives its log, after a run that was killed too, and starts from a whole archive, but not from
-        a damaged one. An archived segment is accepted again, and never overwritten."""
+        """PostgreSQL archives its log, even after a killed run, and starts from a whole archive, but not from a
+        damaged one. The same segment is accepted again, and an archived one is never overwritten."""
         conf = "\n".join(lines_below("Archive the log of a database", "conf"))
         conf = conf.replace("/etc/wal.key", f"{self.folder}/key").replace("/srv/", f"{self.folder}/")
         self.does(f"mkdir wal && cp -a data live && cat >>live/postgresql.conf <<'end'\n{conf}\nend")
@@ -555,7 +555,7 @@ class Systemd(unittest.TestCase):
 
     @unittest.skipUnless(shutil.which("systemd-analyze"), "systemd-analyze missing")
     def test_unit(self):
-        """systemd accepts the service, and reads its credential."""
+        """systemd accepts the service, and warns of a wrong line about its credential."""
         service = block("ini").replace("=agep ", f"={installed()}/bin/agep ")
         for text, line in (service, b""), (service.replace("Credential=key:", "Credential=key;"), b"not valid"):
             write("backup.service", text.encode())
@@ -588,7 +588,7 @@ mod tests {
 """,
     "crates/one/must-fail/one_is_two.edit": "# clause: one\nfile: src/lib.rt\nold:      1\nnew:      2\n",
 }
-# What each command of the table must print.
+# What each command of the table in CONTRIBUTING.md must print.
 ANSWERS = {
     "rt check": "logic=proved functions=1 ", "rt check --only CRATE::MODULE::FUNCTION": "only=1 proved=1",
     "rt try --test": "run=ended status=0 ", "rt test": "1 passed; 0 failed", "rt lib": "logic=proved functions=1 ",
@@ -599,7 +599,7 @@ ANSWERS = {
 @unittest.skipUnless(shutil.which("rt"), "rt missing")
 class OneCrate(unittest.TestCase):
     def test_commands(self):
-        """Each command of the table does what it says. Each tree has its own text, because `rt lib` takes another's build of the same."""
+        """Each command of the table prints its answer. Trees differ in a name, because `rt lib` reuses a build of equal sources."""
         page = text_of("CONTRIBUTING.md")
         self.assertEqual(re.findall(r"^\| `(rt .*?)` \|", page, re.MULTILINE), list(ANSWERS))
         with_jobs = re.findall("`(rt [^`]*)`", re.search("^.*take `--jobs N`", page, re.MULTILINE)[0])

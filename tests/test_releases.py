@@ -1,5 +1,5 @@
-"""Versions, the folder of the packages, and ./release, in a scratch repository with the current files and a
-stand-in for the toolchain."""
+"""Past releases; versions, the folder of the packages, and ./release in a scratch repository with the
+current files and a stand-in for the toolchain."""
 
 import re
 import shutil
@@ -14,7 +14,7 @@ from test_packages import DEBIAN, MODULES, needs, run
 
 ROOT = Path(program.ROOT)
 LAST = program.version()
-# Options by which git accepts this repository, whoever owns it, and an archive without one.
+# Options by which git works in this repository, whoever owns it, and in an archive of its files.
 HERE = (f"--git-dir={ROOT}/.git", f"--work-tree={ROOT}")
 if IS_ARCHIVE := not (ROOT / ".git").exists():
     HERE = (f"--git-dir={program.scratch()}", f"--work-tree={ROOT}")
@@ -28,7 +28,7 @@ class PastReleases(unittest.TestCase):
     def test_commits(self):
         """Each release in CHANGELOG.md has a commit, that of its heading or the one in CONTRIBUTING.md,
         whose program has this version. Since then the lists of the library's names and of its layout have lost
-        no line, and no name was added with the number of that release."""
+        no line but those of spare fields, and no name was added with the number of that release."""
         if IS_ARCHIVE or run("git", *HERE, "rev-parse", "--is-shallow-repository") == "true\n":
             self.skipTest("the repository is shallow")
         rows = dict(re.findall(r"^\| ([\d.]+) \| `(\w+)` \|$", (ROOT / "CONTRIBUTING.md").read_text(), re.MULTILINE))
@@ -60,8 +60,8 @@ def files_at_hand():
 
 
 class Case(unittest.TestCase):
-    """A clone of this repository. Its ./package makes the source package and an empty Debian package, to save
-    time."""
+    """A clone of files_at_hand(). To save time, its ./package makes one empty Debian package in place of
+    four."""
 
     HIDDEN = ("dpkg-buildpackage",)
 
@@ -126,7 +126,7 @@ class Versions(Case):
         self.assert_version(f"0.8.0-dev.2+g{commit}")
 
     def test_one_commit(self):
-        """With text above the heading it is not a release, even if one commit wrote both."""
+        """A commit with text above the heading is not a release, even if it wrote both."""
         self.write("CHANGELOG.md", UNRELEASED + RELEASED)
         commit = self.commit()
         self.assert_version(f"0.8.0-dev.0+g{commit}")
@@ -165,7 +165,7 @@ class Versions(Case):
             self.assertEqual(self.right("./package", "--version", cwd=folder), f"{version}\n")
 
     def test_no_repository(self):
-        """A folder inside another repository is not that repository."""
+        """A folder inside another repository does not get its version from there."""
         (self.tree / ".git").rename(self.work / ".git")
         done = self.run_here("./package", "--version")
         self.assertEqual((done.returncode, done.stdout), (1, ""))
@@ -299,7 +299,7 @@ class Release(Case):
         self.assertEqual((done.returncode, self.git("log", "-1", "--format=%s")), (1, "Other"))
 
     def test_refused(self):
-        """./release refuses each of these, and changes nothing."""
+        """./release refuses to start in each of these cases, and changes nothing."""
         usage = "usage: ./release VERSION KEY FOLDER"
         self.assertEqual(self.right("./release", "--help"), f"{usage}\n")
         self.refused(usage, "./release", "80.9.2", status=2)

@@ -1,5 +1,5 @@
 """Compares the output and the lines of salvage on small files with a model without a cipher: a piece opens
-exactly if it was made as the chunk of its number."""
+exactly if it was made as the chunk of its number. The last piece may have padding."""
 
 import itertools
 
@@ -94,14 +94,14 @@ class Payloads(ProgramCase):
         )
 
     def test_edges(self):
-        """A file of three chunks, cut or with bytes after its end, near the end of each piece."""
+        """A file of three chunks: cut near the start of each piece, or with bytes after its end."""
         whole = NONCE + filled(0, False) + filled(1, False) + chunk(2, True, HELLO)
         near = [16 + i * SEALED + by for i in range(3) for by in range(-18, 19)]
         self.assert_all((f"cut at {at}", whole[:at]) for at in near if 16 <= at < len(whole))
         self.assert_all((f"{more} bytes behind", whole + b"\n" * more) for more in range(1, 40))
 
     def test_bytes(self):
-        """A file of one chunk: cut anywhere, with each byte changed, and with bytes after its end."""
+        """A payload of one chunk: cut after its nonce, with each byte changed, or with more bytes."""
         whole = NONCE + chunk(0, True, HELLO)
         self.assert_all((f"cut at {at}", whole[:at]) for at in range(16, len(whole)))
         self.assert_all((f"byte {at} changed", changed(whole, at)) for at in range(len(whole)))

@@ -15,8 +15,8 @@ from pathlib import Path
 import stand_in
 from program import AGEP, LEVELS, ROOT, read, scratch, version, write
 
-# The stand-in logs its calls, makes each file that the scripts take from it, and runs a test's
-# script `meanwhile`. Without the file KIT-ID its version is `kit two`.
+# The stand-in logs all calls but `rt version`, makes the object and the archive of a build, and
+# runs a test's script `meanwhile`. Without the file KIT-ID its version is `kit two`.
 RT = """folder={}
 [ "$1" != version ] || exec echo kit two
 echo "${{PWD##*/}} $*" >>"$folder/asked"
@@ -27,12 +27,12 @@ touch out/agep.o out/libagefile.a
 
 
 def for_program(level):
-    """What ./agep asks of it for a level. LLVM is refused for x86-64-v4."""
+    """What ./agep asks of the toolchain for a level. For x86-64-v4 the toolchain refuses LLVM."""
     return f"agep run --cpu {level}{' --backend rattle' * (level == 'x86-64-v4')} -- --version"
 
 
 LIBRARIES = ["agefile lib --cpu x86-64", "agefile lib --cpu x86-64-v3", "agefile lib --cpu x86-64-v4 --backend rattle"]
-# Set as `meanwhile`: what is proved in parallel with others, age_cipher and age_args, ends after these.
+# Set as `meanwhile`: age_cipher waits for age_header to end first, and age_args for age_file.
 LAST = """
 case $PWD in *cipher) other=age_header ;; *args) other=age_file ;; esac
 n=0
@@ -64,7 +64,7 @@ class Builds(unittest.TestCase):
         self.make_tree()
 
     def make_tree(self):
-        """A tree of the scripts with this program, which has no mark of a toolchain."""
+        """A tree of the scripts with the built program, but without the mark of its build."""
         self.folder = scratch()
         os.chdir(self.folder)
         for name in ("agep/src/deep", "agep/specs", "agep/proofs", "agep/out", "agefile/src"):
@@ -82,7 +82,7 @@ class Builds(unittest.TestCase):
         self.environment = {**os.environ, "AGEP_CPU": "x86-64-v9", "PATH": f"{self.folder}/kit/bin:{os.environ['PATH']}"}
 
     def asked(self, script, name=version(), **environment):
-        """What the toolchain is asked to build for a processor. ./agep prints this version."""
+        """The builds that a script asks the toolchain for. `agep --version` must print `name`."""
         write("asked", b"")
         environment = {**self.environment, **environment}
         done = subprocess.run(f"tree/{script}".split(), env=environment, stdin=subprocess.DEVNULL, capture_output=True)
@@ -92,8 +92,8 @@ class Builds(unittest.TestCase):
         return sorted(line for line in read("asked").decode().splitlines() if "--cpu" in line)
 
     def test_sources(self):
-        """A build is repeated if a source is newer, was added or removed, or changed during the build, and not
-        otherwise."""
+        """A build is repeated if crates.txt or a source is newer, or a source was added, removed or changed
+        during the build, and not if another file is newer."""
         rows = [
             ("nothing is built", "", True), ("all is current", "", False), ("crates.txt", "touch tree/crates.txt", True),
             *((name, f"touch {name}", True) for name in self.sources),
@@ -126,7 +126,7 @@ class Builds(unittest.TestCase):
             self.assertEqual(read(program), read(f"{program}-{level}"), level)
 
     def test_levels(self):
-        """If AGEP_CPU is not set, a build is for the highest level of which the processor has all."""
+        """If AGEP_CPU is not set, a build is for the highest level that the processor has in full."""
         third, fourth = "avx avx2 bmi1 bmi2 f16c fma abm movbe xsave", "avx512f avx512bw avx512cd avx512dq avx512vl"
         script = 'root=tree; . tree/share/build.sh; sed() { echo "$FLAGS"; }; processor'
         every = f"{third} {fourth}".split()
@@ -162,7 +162,7 @@ class Builds(unittest.TestCase):
                 self.assertEqual((sorted(names), left[-1]), (sorted(begun), "0"))
 
     def test_failing_build(self):
-        """If the toolchain is missing or a build fails, its output and a line are shown, nothing is run or
+        """If a build is due, and fails or lacks the toolchain, its output and a line are shown, nothing is run or
         installed, and the next call builds again. Standard input is not read. The gate needs the toolchain, too."""
         tools = stand_in.tools_but(f"{self.folder}/tools", "rt")["PATH"]
         gate = subprocess.run(["tree/.ci/run"], env={**self.environment, "PATH": tools}, capture_output=True)
@@ -186,8 +186,8 @@ class Builds(unittest.TestCase):
         self.assertEqual(subprocess.run(["tree/package", "--build"], env=self.environment, capture_output=True).returncode, 1)
 
     def test_interrupted(self):
-        """An interrupt ends a build with all that it has started, and leaves no file. The next build says
-        that it resumes."""
+        """An interrupt ends a build with all that it has started, and leaves no temporary file. The next
+        build says that it resumes."""
         for name in ("age_cipher", "age_kdf", "temporary"):
             os.mkdir(f"tree/crates/{name}")
         write("pids", b"")
@@ -220,7 +220,7 @@ class Builds(unittest.TestCase):
         self.assertFalse(os.path.exists("tree/crates/agep/out/agep-x86-64.o"), "an object of an earlier build")
 
     def test_version(self):
-        """./agep has the version of the packages, in a repository and in an archive that has its commit."""
+        """./agep prints the version of the packages, in a repository and in an archive with its commit."""
         git = ["git", "-C", "tree", "-c", "user.name=Name", "-c", "user.email=name@host"]
         for words in (["init", "-q"], ["add", "-A"], ["commit", "-qm", "All"]):
             subprocess.run([*git, *words], check=True)
@@ -281,7 +281,7 @@ class Installs(unittest.TestCase):
         return done.returncode, done.stdout.decode(), done.stderr.decode()
 
     def assert_modes(self, top, files):
-        """The folder must have exactly these files and their folders, with the usual modes."""
+        """The folder has exactly these files, their folders and FOLDERS, with the usual modes."""
         found = {str(path.relative_to(top)): path for path in Path(top).rglob("*")}
         folders = {str(folder) for file in files for folder in Path(file).parents} - {"."} | self.FOLDERS
         self.assertEqual({*found}, {*files} | folders)

@@ -40,7 +40,7 @@ class StandardInput(ProgramCase):
                 self.says(message("CannotOpen", name), "range", "-k", "key", "1", "3", name, input=read("key.age"))
 
     def test_secrets(self):
-        """A secret is standard input, and IN is given."""
+        """A secret or the seed is standard input, and IN is given."""
         key_age, pass_1_age = read("key.age"), read("pass_1.age")
         rows = [
             ("decrypt -k", "key.age", "key", HELLO), ("decrypt -p", "pass.age", "pass", HELLO),
@@ -61,7 +61,7 @@ class StandardInput(ProgramCase):
                 self.writes(expected, "inspect", "-f", name, "key.age", input=stdin)
 
     def test_device(self):
-        """A character device is standard input only by the names of standard input; as IN and a secret it is then refused."""
+        """A character device counts as standard input only by one of NAMES; only then are two uses of it refused."""
         for name in NAMES:
             for words, role in (("decrypt -k", "Key"), ("encrypt -k key -s", "Seed")):
                 with self.subTest(f"{words} {name}"), open("/dev/zero", "rb") as stdin:
@@ -83,7 +83,7 @@ class Refused(ProgramCase):
             self.assertFalse(os.path.exists("made"))
 
     def test_each_role(self):
-        """No file may be standard input beside IN; if it is closed, none can be read. `-` is not a name of it."""
+        """If IN is standard input, no other file may be. Closed, it cannot be opened; `-` does not name it."""
         for line, (role, name) in ((line, it) for line in lines() for it in roles(line)):
             out = "" if line.startswith("inspect") else " -o made"
             self.refused("CannotOpen: -", f"{with_names(line, {name: '-'})}{out} <yesterday")

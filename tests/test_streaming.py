@@ -1,4 +1,4 @@
-"""The program works chunk by chunk: its output while the input is still fed, and its memory."""
+"""The program works chunk by chunk: output while it is fed, memory, damage; non-blocking output."""
 
 import contextlib
 import fcntl
@@ -17,7 +17,7 @@ from messages import message
 from program import AGEP, PATIENCE, TESTS, ProgramCase, fault, read, write
 from test_options import skip_unless_holes
 
-# The header of a keyed file with the nonce, and without it.
+# The bytes of a keyed header with the nonce and without it, and of a passphrase header.
 KEY_FRONT, KEY_HEADER, PASSPHRASE_HEADER = 172, 156, 150
 CHUNK, SEALED = 65536, 65552
 MANY = b"".join(b"%d\n" % i for i in range(1, 100001))[:450000]
@@ -27,7 +27,7 @@ class Lockstep(ProgramCase):
     FILES = {"many": MANY, "many.age": fixture.for_keys(MANY, KEY), "new.age": fixture.for_keys(MANY, NEW_KEY)}
 
     def start(self, line):
-        """Starts the program; its pipes hold all of these files, so nobody waits to write."""
+        """Starts the program; each of its pipes can hold a whole file, so nobody waits to write."""
         pipes = {name: subprocess.PIPE for name in ("stdin", "stdout", "stderr")}
         running = subprocess.Popen([AGEP, *line.split()], bufsize=0, pipesize=1 << 20, **pipes)
         self.addCleanup(running.kill)
@@ -44,8 +44,8 @@ class Lockstep(ProgramCase):
         self.assert_bytes(came, expected)
 
     def assert_lockstep(self, line, name, made, front, piece, made_front, made_piece):
-        """Feeds a file: its front and a piece, and then a piece at a time. Before the next one, all but the newest piece
-        must have come out: the front of what is made, and so many bytes for each piece."""
+        """Feeds a file: its front and a piece, and then a piece at a time. Before the next piece, `made_front` bytes
+        must have come out, and `made_piece` bytes for each piece but the newest."""
         data, expected = self.FILES[name], self.FILES[made]
         with self.start(line) as running:
             running.stdin.write(data[: front + piece])
@@ -90,7 +90,7 @@ class NonBlocking(ProgramCase):
     """Standard output is a pipe that another program has made non-blocking."""
 
     def run_full(self, command, ends):
-        """Runs a shell command, and reads its output once it has ended or the pipe is full."""
+        """Runs a shell command; reads its output once the pipe is full and, if `ends`, it ended."""
         reading, writing = os.pipe()
         os.set_blocking(writing, False)
         environment = dict(os.environ, PATH=os.path.dirname(AGEP) + ":" + os.environ["PATH"])
@@ -132,7 +132,7 @@ class Memory(ProgramCase):
         os.remove("kib")
 
     def write_great(self, chunks):
-        """A file with so many chunks that are holes before the last one."""
+        """A file with a last chunk after this many chunks that are holes."""
         with open("great.age", "wb") as out:
             out.write(reference.header(SEED[:16], [reference.key_stanza(KEY, SALT)]))
             reference.write_payload(out, SEED[:16], SEED[16:32], [b"hello\n"], chunks)
@@ -166,7 +166,7 @@ class Memory(ProgramCase):
 
 class DamagedFile(ProgramCase):
     def test_unread(self):
-        """If the first chunk is damaged, only that chunk and one more byte are read."""
+        """If the first chunk is damaged, only it and one more byte are read after the nonce."""
         file = fixture.changed(fixture.for_passphrase(fixture.PLAIN[:131073]), 166)
         write("damaged", file)
         with open("damaged", "rb") as stdin:

@@ -77,7 +77,7 @@ def run_example(line, *options, status=0):
 
 class Helps(ProgramCase):
     def test_form(self):
-        """Help is ASCII, fits 80 columns, and ends with the statuses and examples."""
+        """Help is ASCII, fits 80 columns, and ends with examples; that of commands has statuses."""
         self.assertGreaterEqual(len(commands()), 4)
         for words in [[]] + [[command] for command in commands()]:
             with self.subTest(" ".join(words) or "agep"):
@@ -128,7 +128,7 @@ class Helps(ProgramCase):
         self.assertEqual(len(read("key")), 32)
 
     def test_examples(self):
-        """The examples in help run, in a folder with the files that they name."""
+        """The examples in each command's help run, in a folder with the files that they name."""
         enter_examples()
         for command in commands():
             for name in os.listdir("."):
@@ -189,8 +189,8 @@ class Manual(unittest.TestCase):
         run_example("tar c folder | agep encrypt -k key -o folder.tar.age")
 
     def test_examples(self):
-        """Each of EXAMPLES runs in a plain shell, except for a typed passphrase (test_recipes.Typed). Its files
-        open; if tar fails, the old backup stays."""
+        """Each of EXAMPLES runs in a plain shell, except for a typed passphrase (test_recipes.Typed). notes.age
+        and folder.tar.age, if it makes one, open; if tar fails, the old backup stays."""
         secrets = ("-p passphrase", "-p new", "-k key", "-k recovery.key")
         opened = {"notes.age": "agep decrypt {} notes.age", "folder.tar.age": "agep decrypt {} folder.tar.age | tar xO folder/notes"}
         blocks = re.findall(r"^\.nf\n(.*?)^\.fi$", section("EXAMPLES"), re.MULTILINE | re.DOTALL)
@@ -243,12 +243,12 @@ class Manual(unittest.TestCase):
 
     @unittest.skipUnless(shutil.which("mandoc"), "mandoc is missing")
     def test_mandoc(self):
-        """mandoc renders it without a warning."""
+        """mandoc renders the page without a warning."""
         done = subprocess.run(["mandoc", "-T", "lint", "-W", "warning", PAGE], capture_output=True)
         self.assertEqual((done.stdout, done.stderr), (b"", b""))
 
     def test_man_db(self):
-        """man-db renders it without a warning."""
+        """man-db renders the page without a warning."""
         env = {**os.environ, "LC_ALL": "C.UTF-8"}
         if not shutil.which("man") or not subprocess.run(["man", "--version"], capture_output=True).stdout.startswith(b"man "):
             self.skipTest("man-db is missing")
@@ -288,8 +288,8 @@ class Completions(unittest.TestCase):
                 self.assertEqual(words, ["encrypt", "--no-clobber", "x"])
 
     def test_options(self):
-        """Each option of each command, and after it a file if its value is a file, and nothing if it is a
-        number. No option is offered for a value."""
+        """Each option of each command. For its value a file, or nothing if the value is a number; in bash
+        and zsh no option."""
         options, values, short_joined, long_joined, no_values = {}, {}, {}, {}, {}
         for command in commands():
             options[f"agep {command} -"] = options_of(command)
@@ -327,8 +327,8 @@ class Completions(unittest.TestCase):
         self.assert_offered({"agep range so": [], "agep range 0 so": []}, ["zsh"])
 
     def test_options_that_are_given(self):
-        """After an option zsh offers it again only if it is -k, -K or, except in encrypt, -p, and none that it
-        excludes; after -h or -V nothing."""
+        """zsh offers no option that a given one excludes. It offers only -k, -K and, except in encrypt, -p a
+        second time. After -h or -V it offers nothing."""
         rivals, rows = {"-p": ["-k", "--key"], "-k": ["-p", "--passphrase"], "-P": ["-K", "--new-key"], "-K": ["-P", "--new-pass"]}, {}
         for command in commands():
             for letter, name, value in option_rows(command):

@@ -1,6 +1,6 @@
 """The test vectors of tests/make_vectors.py: their sum is the one in tests/vectors/README.md; agep ends on
-each with the expected fault and its number or part; and Debian's Go library of age gives the expected
-results, except for the differences that the README lists."""
+each that is not for X25519 with the expected fault and its number or part; and Debian's Go library of
+age gives the expected results, if it has the identities, except for those that the README lists."""
 
 import os
 import re
@@ -93,7 +93,7 @@ class Made(unittest.TestCase):
         self.assertEqual(re.findall(r"\b[0-9a-f]{64}\b", README), [make_vectors.sum_of_all()])
 
     def test_folder(self):
-        """It makes a folder that tests/testkit reads, of at most 300 KB, and refuses an existing folder."""
+        """make() makes a folder that testkit reads, of at most 300 KB, and refuses an existing one."""
         folder = f"{scratch()}/vectors"
         make_vectors.make(folder)
         vectors, wrong = testkit.load(folder)
@@ -113,7 +113,7 @@ class Made(unittest.TestCase):
 
 class Program(ProgramCase):
     def test_decrypt(self):
-        """agep ends with the fault of each vector, and releases the chunks before it."""
+        """agep ends with the fault of each vector it takes, and releases the chunks before it."""
         self.assertEqual(differences(testkit.Agep()), {})
 
     def test_salvage(self):
@@ -161,7 +161,7 @@ class Go(unittest.TestCase):
         return names
 
     def test_differences(self):
-        """It gives the expected result for each vector, except for those in the README's table."""
+        """Each vector has the expected result, except for those in the README's table."""
         folder = scratch()
         os.makedirs(f"{folder}/vectors")
         shutil.copytree(f"{GO}/{AGE}", f"{folder}/{AGE}")

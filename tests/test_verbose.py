@@ -1,5 +1,5 @@
-"""`-v`: the second line for each fault, in each command. Each run is repeated without -v, where the first
-line is the only one."""
+"""The second lines that `-v` adds to messages. Each run is repeated without -v, where the first line is
+the only one."""
 
 import resource
 import shlex
@@ -29,7 +29,7 @@ def no_growth():
 
 class Verbose(ProgramCase):
     def explains(self, name, more, *lines, out=b"", **how):
-        """Lines must end with the fault of this name, and with -v have a second line."""
+        """Lines must end with the fault of this name and, with -v, a second line `more`, if any."""
         for line in lines:
             command, _, rest = line.partition(" ")
             with self.subTest(line.replace("\n", "\\n")):

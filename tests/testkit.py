@@ -5,8 +5,8 @@ usage: tests/testkit FOLDER [agep | python | c]..
 
 tests/vectors/README.md describes the form. ASCII armor must be refused as not an age file.
 
-Vectors without a passphrase or identity, or with one of a kind that a program lacks, are skipped, and listed
-before the last line, which is 'N passed, M failed'.
+Vectors without a passphrase or identity, or with one of a kind that a program lacks, are skipped, unless
+they are armored, and listed before the last line, which is 'N passed, M failed'.
 """
 
 import functools
@@ -67,7 +67,7 @@ class Vector(NamedTuple):
 
     @property
     def tried(self):
-        """The secrets for opening it; armor is refused with any of them."""
+        """The secrets to try: any one for armor, which is refused whatever the secret."""
         return (Secret("passphrase", b"x"),) if self.is_armored else self.secrets
 
 
@@ -113,7 +113,7 @@ def parse(name, data):
 
 
 def whole(name, number, fields, secrets, data):
-    """The vector with the lines before the empty line of this number, and the bytes after it."""
+    """The vector of these lines, and of the bytes after the empty line, which has this number."""
     needed = ("expect", "payload") if fields.get("expect") == "success" else ("expect",)
     for key in needed:
         if key not in fields:
@@ -156,7 +156,7 @@ def found_of(code, place, part, text):
 # A way to open files has `releases`, whether it releases the chunks before a fault, and `opens_last`,
 # whether it opens the last chunk first, as ranges do.
 class InTurn:
-    """A program that takes one secret per run: the first secret that fits, or finds a fault, decides."""
+    """A program that takes one secret per run: the first whose result is not "no match" decides."""
 
     def lacks(self, secret):
         return secret.kind not in ("passphrase", KEY)
@@ -234,7 +234,7 @@ class InPython:
             said = messages.message(found.fault, *filter(None, [found.word]))
             return found if str(error) == said else found._replace(fault=f"{found.fault}, {error}")
         except ValueError:
-            # of the example for X25519
+            # The example for X25519 raises this for a malformed stanza.
             return Found("Malformed", None, out.getvalue())
         return Found(None, None, out.getvalue())
 
@@ -326,8 +326,8 @@ def ways_of(names):
 
 
 def run(vectors, way):
-    """Opens vectors in a way. Returns how many passed, the lines of those that failed, and by the reason the
-    names of those that were skipped."""
+    """Opens vectors in a way. Returns how many passed, the lines of those that failed, and the names of
+    those that were skipped, by reason."""
     passed, failed, skipped = 0, [], {}
     for vector in vectors:
         if reason := why_skipped(vector, way):

@@ -14,9 +14,9 @@ tests/messages.txt have for a fault; a failed check shows their texts.
 The commands of a transcript run one after another in one shell with `pipefail`, in a copy of the folder that
 fixture.py makes, with an empty standard input. ROOT is the folder of the repository.
 
-README.md and docs/USE.md are transcripts, too: their commands run in a folder like a clone, standard error is
-mixed with standard output, and no status is shown. The gate itself is not run, and the output of a build is
-left out.
+README.md and docs/USE.md are transcripts, too: their commands run in a folder like a clone, without pipefail,
+standard error is mixed with standard output, and no status is shown. The gate itself is not run, and the
+output of a build is left out.
 
 The last line is 'N passed, M failed', over all commands.
 """
@@ -114,7 +114,7 @@ class Session:
         subprocess.run(words, cwd=folder, env=environment, stdin=subprocess.DEVNULL)
 
     def printed(self, number):
-        """The output of a command, or `[not run]` if the shell ended before it."""
+        """The output of a command, or `[not run]` if the shell ended before the command did."""
         if not os.path.exists(f"{self.room}/status.{number}"):
             return ["[not run]"]
         lines = lines_of(read_text(f"{self.room}/out.{number}"))

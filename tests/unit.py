@@ -5,7 +5,7 @@ usage: tests/unit.py [NAME..]     test_FILE, test_FILE.Class or test_FILE.Class.
        tests/unit.py --list       the names of their classes
 
 Each subtest is a check, and so is a test without subtests. The classes run in parallel, each in its own process; but
-the classes of a file that builds something first run in one. The last line is 'N passed, M failed'.
+if a file of ALONE is named as a whole, its classes run in one. The last line is 'N passed, M failed'.
 """
 
 import os
@@ -120,7 +120,7 @@ class Apart:
         os._exit(status)
 
     def counts(self, status):
-        """Prints what it said, and returns how many checks passed and failed."""
+        """Prints the output of the tests, and returns how many checks passed and failed."""
         *lines, last = program.read(self.folder + "/said").decode("utf-8", "backslashreplace").rstrip("\n").split("\n")
         shutil.rmtree(self.folder, ignore_errors=True)
         print(*lines, sep="\n", flush=True)

@@ -1,8 +1,8 @@
 /* agefile.h: a proved library for the age v1 encrypted file format (C2SP age.md). It works on whole
- * buffers, on streams in steps, and on ranges in steps, with recipients and identities of any kind.
+ * buffers and, in steps, on streams, ranges and damaged files, with any recipients and identities.
  *
- * The calls check every length and every number. The following duties are the caller's. Nothing can
- * check them, and a call that violates one has undefined behaviour:
+ * Apart from the following duties of the caller, the calls check everything on which memory safety
+ * depends. The library cannot check these duties, and a violation has undefined behavior:
  *
  *  1. A pointer without a length must not be null. A pointer with a length may be null: if the
  *     length is 0 it stands for no bytes, otherwise the call returns AGEFILE_NULL_POINTER.
@@ -18,9 +18,9 @@
  *  7. A signal handler must not make calls. A forked child may make calls if it may use malloc.
  *  8. malloc, realloc and free must belong to one allocator, and align blocks as C demands.
  *
- * Every call except those of sizes, version and texts returns an agefile_code and sets its whole
- * report. A call that fails writes only what its comment says. Lines are counted from 1; chunks,
- * stanzas and bytes from 0.
+ * Every call with a report sets all of it, and returns an agefile_code. A call that fails writes
+ * nothing else except what its comment says. Lines are counted from 1; chunks, stanzas and bytes
+ * from 0.
  *
  * A passphrase is any bytes; an empty one can open files but not make them. A work factor is 1 to
  * 30, usually 18 for a new file. `max_work` is the largest one that is accepted, usually 22.
@@ -63,8 +63,8 @@ extern "C" {
 #define AGEFILE_STANZA_ROOM 128    /* bytes for a stanza of agefile_wrap_passphrase or _key */
 #define AGEFILE_HEADER_ROOM 256    /* bytes for a header with one such stanza, and its nonce */
 
-/* A code is never reused. 15 and 16 are failed reads and writes, 19 and 20 faults of other
- * recipients; no call here returns them. AGEFILE_NULL_POINTER comes before every other code: the
+/* A code is never reused. 15 and 16 are failed reads and writes, 19 and 20 faults of recipients;
+ * no call here returns them. AGEFILE_NULL_POINTER comes before every other code: the
  * call closes a payload or ranges that it was to open, and otherwise writes only the report. */
 /* generated: codes */
 enum agefile_code {
@@ -98,8 +98,8 @@ enum agefile_code {
 };
 /* end of codes */
 
-/* The message of a code: the text of the program `agep`, without numbers. report.place has the line
- * or the chunk. */
+/* The message of a code; for a fault of a file, what `agep` prints without its numbers and the part
+ * of a stanza: report.place has the line or the chunk, agefile_detail the text of the part. */
 static inline const char *agefile_message(uint32_t code)
 {
     switch (code) {
@@ -171,10 +171,10 @@ uint32_t agefile_version(void) AGEFILE_USED;
 
 /* ---- Headers. Reading a header needs no passphrase or key, so its MAC is not verified.
  *
- * Here and below, `front` is any beginning of the file that contains its header; every such
- * beginning has the same result. AGEFILE_FRONT bytes, or all of a shorter file, always suffice. If
- * the header is not complete, the calls return AGEFILE_HEADER_TRUNCATED: read on, if the file has
- * more. */
+ * Here and below, `front` is any beginning of the file that contains its header and, for the calls
+ * that open, its nonce; every such beginning has the same result. AGEFILE_FRONT bytes, or all of a
+ * shorter file, always suffice. If the header is not complete, the calls return
+ * AGEFILE_HEADER_TRUNCATED: read on, if the file has more. */
 typedef struct agefile_summary {
     uint64_t header_len;
     uint64_t stanzas;
@@ -213,7 +213,7 @@ uint32_t agefile_unlock_key(
 /* ---- From a file key to the text of a stanza, at the start of `out`. report.len is its length. On
  * AGEFILE_TOO_SMALL it is the length needed, and `out` is unchanged. For several stanzas,
  * concatenate their texts. A salt is 16 fresh random bytes for each stanza. For an empty passphrase
- * the call returns AGEFILE_EMPTY_PASSPHRASE, whatever `work` and `out` are. */
+ * the call returns AGEFILE_EMPTY_PASSPHRASE, whatever `work` and `out_len` are. */
 uint32_t agefile_wrap_passphrase(
     const uint8_t file_key[AGEFILE_LEAST 16], const uint8_t *pass, size_t pass_len, uint8_t work,
     const uint8_t salt[AGEFILE_LEAST 16], uint8_t *out, size_t out_len, agefile_report *report)
@@ -228,8 +228,8 @@ uint32_t agefile_wrap(
     const uint8_t *args, size_t args_len, const uint8_t *body, size_t body_len, uint8_t *out,
     size_t out_len, agefile_report *report) AGEFILE_CALL((7));
 
-/* ---- The header for a text of stanzas, with its MAC under a file key. report.len is its length.
- * On a fault `out` is unchanged:
+/* ---- The header for a text of stanzas, with its MAC under a file key. report.len is its length,
+ * on AGEFILE_TOO_SMALL, too. On another code than 0 `out` is unchanged. Faults of the text:
  * - AGEFILE_NO_RECIPIENTS if the text is empty;
  * - AGEFILE_BAD_LINE if the text does not consist of stanzas; report.place is its first bad line,
  *   which may be the one after its end if a body is missing;
@@ -240,9 +240,9 @@ uint32_t agefile_header(
     const uint8_t *stanzas, size_t stanzas_len, const uint8_t file_key[AGEFILE_LEAST 16],
     uint8_t *out, size_t out_len, agefile_report *report) AGEFILE_CALL((3, 6));
 
-/* ---- A payload in order, which the caller holds between two calls. A call out of order, or with a
- * chunk of another length than stated below, returns AGEFILE_OUT_OF_ORDER and changes only the
- * report. On a fault of a chunk report.place is its number. */
+/* ---- A payload, chunk by chunk; the caller holds its state between two calls. A call out of order
+ * or with a chunk of another length than stated below returns AGEFILE_OUT_OF_ORDER and changes only
+ * the report. On a fault of a chunk report.place is its number. */
 enum agefile_state {
     AGEFILE_CLOSED = 0,
     AGEFILE_READING = 1,
@@ -280,7 +280,7 @@ uint32_t agefile_open(
  * unchanged. After a fault the payload accepts no further chunk.
  *
  * The plaintext is complete only after a 0 for the last chunk, so make one call with `last` even if
- * no byte follows. A full chunk is the last if no byte follows it: to know that, a caller that
+ * no byte is left. A full chunk is the last if no byte follows it: to know that, a caller that
  * reads a stream needs one byte more than the chunk. */
 uint32_t agefile_open_next(
     agefile_payload *payload, uint8_t *chunk, size_t chunk_len, bool last, agefile_report *report)
@@ -321,7 +321,7 @@ uint32_t agefile_part_seal_next(
 /* ---- What is left of a damaged payload: agefile_open, then agefile_salvage_next for each chunk in
  * order, with the lengths and `last` of agefile_open_next. What was saved of a chunk: */
 enum agefile_saved {
-    AGEFILE_SAVED_CHUNK = 1, /* the text of a chunk that others follow */
+    AGEFILE_SAVED_CHUNK = 1, /* the text of a chunk that is not marked as the last */
     AGEFILE_SAVED_LAST = 2,  /* the text of the last chunk */
     AGEFILE_SAVED_EARLY = 3, /* the text of a chunk marked as the last that cannot be it */
     AGEFILE_SAVED_ZEROS = 4, /* zeros: the chunk is lost */
@@ -329,7 +329,7 @@ enum agefile_saved {
     AGEFILE_SAVED_PADDED = 6 /* the text of the last chunk, and up to 4,095 bytes follow it */
 };
 
-/* What is known of the plaintext after its last chunk, or 0 if neither is: */
+/* What is known of the plaintext after its last chunk; report.detail is 0 if neither is known: */
 enum agefile_verdict {
     AGEFILE_WHOLE = 1, /* complete and genuine: agefile_open_next opens all chunks */
     AGEFILE_CUT = 2    /* cut short: chunks are missing at the end */
@@ -401,8 +401,8 @@ static inline uint32_t agefile_null_pointer(agefile_report *report)
 }
 
 /* ---- Whole buffers with a secret. Each function makes two of the calls above; if the first fails,
- * its report is returned. These functions exist only in this header: the library has no such names.
- * The seed is the file key, the nonce and the salt. */
+ * its code and report are the result. These functions exist only in this header: the library has no
+ * such names. The seed is the file key, the nonce and the salt. */
 AGEFILE_CALL((8))
 static inline uint32_t agefile_decrypt_passphrase(
     const uint8_t *file, size_t file_len, const uint8_t *pass, size_t pass_len, uint8_t max_work,

@@ -10,7 +10,7 @@ _agep() {
         return
     fi
     for ((i = 2; i < COMP_CWORD; i++)); do
-        # no option follows: a file, by default
+        # after -- only files follow, which bash completes by default
         [[ ${COMP_WORDS[i]} != -- ]] || return
     done
     case ${COMP_WORDS[COMP_CWORD - 1]} in

@@ -1,5 +1,5 @@
 """The exports and structs of the library for C: their declarations for agefile.c, Python, Rust and the lists
-of share/debian. tests/test_library.py compares them with agefile.h, which is written by hand."""
+of share/debian. tests/test_library.py compares them with the handwritten ones of agefile.h."""
 
 import re
 import sys
@@ -16,8 +16,8 @@ SYMBOLS, LAYOUT = "share/debian/libagefile.symbols", "share/debian/libagefile.la
 
 
 class Value(NamedTuple):
-    """A parameter or a field: its name, `const` or `mut` if it is a pointer, the type of a number or a struct,
-    the number of elements if it is an array, and whether a length follows it."""
+    """A parameter or a field: its name, `const` or `mut` if it is a pointer, its type or that of its target or
+    elements, the number of elements if it is an array, and whether a length follows it."""
 
     name: str
     access: str
@@ -120,7 +120,7 @@ def _function_in_rust(export):
 
 
 def _safe_in_rust(export):
-    """The function with slices for pointers. A struct or an array that it only writes is made, and returned."""
+    """The function, with slices and references. Makes and returns a struct or array only written."""
     taken, passed, made = [], [], ""
     for place, v in enumerate(export.parameters[:-1]):
         kind = f"[{v.kind}; {v.count}]" if v.count else v.kind
@@ -142,7 +142,7 @@ def _safe_in_rust(export):
 
 
 def _struct_in_rust(name, fields):
-    """A struct with a key cannot be copied, because a copy would seal another chunk under a nonce that was used."""
+    """A struct with a key cannot be copied: a copied payload would seal another chunk under a used nonce."""
     derived = "Default" if any(field.name == "key" for field in fields) else "Clone, Copy, Default"
     feature = '#[cfg(feature = "parallel")]\n' * (name == "Part")
     lines = "".join(f"    pub {v.name}: {f'[{v.kind}; {v.count}]' if v.count else v.kind},\n" for v in fields)
@@ -185,7 +185,7 @@ def grown(root, region, rows):
 
 
 def _symbols(root, names):
-    """Each name with the release that introduced it. A new name gets the next release."""
+    """Each name with the release that introduced it. A new name gets the next minor release."""
     kept = dict(re.findall(r"^ agefile_(\w+)@\S+ (\S+)$", (root / SYMBOLS).read_text(), re.M))
     released = re.search(r"^## (\d+)\.(\d+)", (root / "CHANGELOG.md").read_text(), re.M)
     coming = f"{released[1]}.{int(released[2]) + 1}.0"

@@ -29,7 +29,7 @@ class Fault(NamedTuple):
 
     @property
     def message(self):
-        """The text without its numbers."""
+        """The text without its numbers or its part."""
         return re.sub(r" ?\{\d\}:?| ?: ?\{\d\}", "", self.text).removesuffix(":").strip()
 
     def shown(self, word):
@@ -64,8 +64,8 @@ def _numbers(root, kind):
 
 
 def own(root):
-    """The codes of the library that are not faults of a file: constants of code.rt whose comments begin
-    with their texts in backquotes."""
+    """The codes of the library that are not faults of a file: NULL_POINTER, and constants of code.rt
+    whose comments begin with their texts in backquotes."""
     of_faults, found = _numbers(root, "Fault").values(), [NULL_POINTER]
     for comment, constant, number in re.findall(r"((?:///.*\n)+)pub\(crate\) const (\w+): u32 = (\d+);", _source(root, CODE)):
         if int(number) not in of_faults:

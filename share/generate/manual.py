@@ -44,8 +44,8 @@ def _sentences(option):
 
 
 def _options(commands):
-    """Each option once. If its text depends on the command, each text comes with its commands; of a text
-    that continues the first one, only the continuation."""
+    """Each option once. Each of its texts comes with its commands, unless all commands have that text.
+    Of a text that begins with the whole first text, only the rest comes."""
     found = {}
     for command in commands:
         for option in command.options:

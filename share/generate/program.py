@@ -76,7 +76,7 @@ class Source:
         return self.constants[word] if word in self.constants else word.strip("'\"")
 
     def option(self, built):
-        """The option that an expression builds: a chain of calls on `Arg::new`, in functions or not."""
+        """The option that an expression builds: calls on `Arg::new`, perhaps in other functions."""
         name, arguments, chain = call(built.strip())
         if name != "Arg::new":
             return self.option(self.filled(name, arguments).strip() + chain)

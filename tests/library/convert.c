@@ -2,8 +2,8 @@
 // with other programs:
 //   convert (whole | steps | ranges) (encrypt | decrypt) (-k | -p) SECRET_FILE [WORK [SEED_FILE]]
 //   convert messages
-// The status is the code of the call, whose message it prints on standard error. messages prints
-// the code and the message of each code, and the detail and the text of each detail.
+// The status is the call's code or, after another failure, 95 to 99. If the code is not 0, standard
+// error gets its message. messages prints each code and its message, each detail and its text.
 #include <agefile.h>
 #include <stdio.h>
 #include <stdlib.h>

@@ -1,8 +1,8 @@
 //! Encrypts or decrypts standard input to standard output by one API of the crate for Rust, for
 //! comparisons with other programs:
 //!   convert (whole | stream | ranges | threads) (encrypt | decrypt) (-k | -p) SECRET_FILE
-//! After a fault it has written the plaintext before the fault, and ends with the line and the
-//! status of agep.
+//! After a fault, stream and ranges have written the plaintext before it. The line and the status
+//! of a fault are those of agep.
 //!   convert files salvage (-k | -p) SECRET_FILE
 //! salvages files from standard input, each after its length. For each it writes the length of the
 //! plaintext, the plaintext, and a line of JSON: the report, or the error as a text.

@@ -1,15 +1,15 @@
 // Makes the calls that random_calls.py requests, one after another, and reports what they returned
 // and wrote. Each pointer's memory lies between two pages without access, and no block of memory may
-// be left allocated. A marked call is then made with each allocation refused in turn, or on eight
-// threads at once, each with a small stack, and in a forked child. No call may change a signal
-// handler. Must be linked with --wrap=malloc, --wrap=realloc and --wrap=free.
+// be left allocated. One flag repeats a call with each allocation refused in turn, another on eight
+// threads at once and, without sanitizers, with small stacks and in a forked child. No call may
+// change a signal handler. Must be linked with --wrap=malloc, --wrap=realloc and --wrap=free.
 //
 // A request, in the byte order of the machine: the index of the call in Header.functions of
 // header.py, flags, and the number of arguments, one byte each; then for each argument its kind and
 // its shift, one byte each, a number of 8 bytes, and for a buffer that many bytes. The answer: the
-// result, 8 bytes; one byte, 1 if the call left unchanged what it must not change, else 0; how many
-// allocations were refused, and after how many of them the call was out of memory, 8 bytes each; the
-// report; the bytes of all buffers.
+// result, 8 bytes; one byte, 1 if no byte around a buffer changed, no block is left and the repeated
+// calls agree, else 0; the number of refused allocations, and of those after which the call was out
+// of memory, 8 bytes each; the report; the bytes of all buffers.
 #include <agefile.h>
 #include <pthread.h>
 #include <signal.h>
@@ -32,7 +32,7 @@ enum { stack_size = 1 << 20, can_fork = false };
 enum { stack_size = 16 * 1024, can_fork = true };
 #endif
 
-// An argument: a number, or a buffer with its initial bytes.
+// An argument: a number, a buffer with its initial bytes, or a null pointer with a length.
 struct argument {
     uint8_t kind, shift;
     uint64_t number;
@@ -200,8 +200,8 @@ static bool is_same_turn(const struct turn *a, const struct turn *b)
     return a->result == b->result && memcmp(a->memory.pointers[call->count], b->memory.pointers[call->count], sizeof(agefile_report)) == 0;
 }
 
-// Makes the call with each allocation refused in turn, until none is. Returns whether each run was
-// out of memory, or managed with less memory and gave the usual result.
+// Makes the call with each allocation refused in turn, until none is. Returns whether each run left
+// no block, kept the bytes around buffers, and was out of memory or gave the usual result.
 static bool refuses_each(struct turn *usual)
 {
     bool is_well = true, was_refused = true;
@@ -234,8 +234,8 @@ static bool agrees_in_a_child(const struct turn *first)
     return child > 0 && waitpid(child, &status, 0) == child && status == 0;
 }
 
-// Makes a call on eight threads at once, another one on every second of them if there is one, and in
-// a child while they do. Returns whether all gave the same result as the first time.
+// Makes a call on eight threads at once, with another call, if there is one, on every second thread,
+// and meanwhile, if it can fork, in a child. Returns whether each gave the result of the first time.
 static bool agrees_on_threads(const struct turn *first, const struct turn *other)
 {
     pthread_t ids[thread_count];

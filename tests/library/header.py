@@ -1,5 +1,5 @@
 """The declarations in agefile.h: its functions and structs, in the form of share/generate/calls.py, and the C
-texts that the programs here include, with a line for each function."""
+texts that the programs here include."""
 
 import re
 import sys
@@ -14,7 +14,7 @@ from program import LEVELS
 WORDS = {word: kind for kind, word in IN_C.items()}
 FUNCTION = re.compile(r"(AGEFILE_CALL\(\([\d, ]+\)\) )?(static inline )?(uint\d+_t) agefile_(\w+)\(([^)]*)\)( AGEFILE_\w+(?:\(\([\d, ]+\)\))?;| \{)")
 STRUCT = re.compile(r"typedef struct agefile_(\w+) \{ (.*?) \} agefile_\1;")
-# The struct that a call opens; it is closed if the call refuses a null pointer.
+# The payload or ranges that a call opens; closed if the call refuses a null pointer.
 OPENING = {"begin": "payload", "open": "payload", "ranges_open": "ranges"}
 DECLARED = re.compile(r"(const )?(?:agefile_)?(\w+) (\*?)(\w+)(?:\[(?:AGEFILE_LEAST )?(\d+)\])?")
 
@@ -37,8 +37,8 @@ def _parameters(text):
 
 
 class Header:
-    """The exports, the functions that are only in the header, the structs, and the functions without the
-    attribute that fits their parameters."""
+    """The exports, the calls that are only in the header, the structs, and the functions without
+    the attribute that fits their parameters."""
 
     def __init__(self, root=ROOT):
         text = re.sub(r"/\*.*?\*/|^#[^\n]*", "", (root / "bindings/c/agefile.h").read_text(), flags=re.S | re.M)

@@ -1,8 +1,8 @@
-"""What each call of the library for C must return and write, by docs/FORMAT.md and the comments of agefile.h.
-It uses tests/reference.py and shares nothing with the library.
+"""What each call in C must return and write, by docs/FORMAT.md and agefile.h, except agefile_version,
+agefile_message and agefile_detail. Uses tests/reference.py, and shares nothing with the library.
 
-Each function takes the arguments of the call of the same name: numbers, and for a pointer and its length a
-bytearray, which it changes as the call does, or NULL. It returns the code and the report."""
+Each function named like a call takes its arguments: numbers, and a bytearray for each pointer, which it
+changes like the call. It returns the code and the report (or a number alone), or raises Fault."""
 
 import base64
 import functools
@@ -209,7 +209,7 @@ def zero(data):
 
 
 class Struct:
-    """A struct that a call changes: its fields, in the memory of the call."""
+    """A struct that a call gets: its fields, in the memory of the call."""
 
     def __init__(self, data, names, numbers="QQQ"):
         self.data, self.names, self.layout = data, names, f"<32s{numbers}"
@@ -368,7 +368,7 @@ WHOLE, CUT = 1, 2
 
 
 def saved(key, number, is_last, data):
-    """What is saved of a sealed chunk: its text, without padding behind the last one, or zeros, and which of these."""
+    """What is saved of a sealed chunk: its text, without the padding after a last chunk, or zeros; and its kind."""
     for is_marked in (is_last, not is_last):
         text = opened(key, number.to_bytes(11, "big") + bytes([is_marked]), data) if len(data) >= TAG else None
         if text is not None and not is_marked:
@@ -383,7 +383,7 @@ def saved(key, number, is_last, data):
 
 
 def verdict(payload, kind):
-    """Whether the plaintext is whole, cut or neither, by what was saved of its last chunk."""
+    """WHOLE or CUT if that is known of the plaintext by what was saved of its chunks, else 0."""
     if kind == SAVED_LAST and not payload.damaged:
         return WHOLE
     return CUT if kind == SAVED_CHUNK or kind == SAVED_NONE and payload.before <= SAVED_CHUNK else 0

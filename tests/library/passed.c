@@ -41,7 +41,7 @@ static void check(bool holds, const call *call, const char *of)
     }
 }
 
-// Gives each pointer its own memory, and each number another value.
+// Gives each pointer its own memory, and each number that is not a bool another value.
 static void set_all(const call *call, uintptr_t *arguments, uintptr_t least)
 {
     memset(memory, 0xEE, sizeof memory);

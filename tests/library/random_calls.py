@@ -4,13 +4,13 @@
 usage: tests/library/random_calls.py COUNT SEED DRIVER..
 
 Each DRIVER is tests/library/driver.c, built with a library and the calls of header.py; all make the same calls.
-First, each pointer that a length follows is null, with length 0 and with another length. Then last chunks of
-each kind are salvaged, and structs in each state get chunks of each length. Then files of several chunks are made
-and opened in every way, whole, damaged, cut and longer, and each place of a header is cut and changed. Then
-files, headers, structs, lengths and numbers are right or wrong in many ways; structs come from earlier calls, or
-are random. Each buffer lies at the end or at the start of its pages, shifted by up to 15 bytes. Some calls are
+First, each pointer that a length follows is null, with length 0 and with two others. Then last chunks of each kind
+are salvaged, and structs in each state get chunks of edge lengths. Then files of up to four chunks are made and
+opened in every way, whole, damaged, cut and longer, and each place of a header is cut and changed. Then in COUNT
+calls files, headers, structs, lengths and numbers are right or wrong in many ways; structs come from earlier calls,
+or are random. Each buffer lies at the end or at the start of its pages, shifted by up to 15 bytes. Some calls are
 made on eight threads at once, some with each allocation refused in turn; at the end both are done with a successful
-call of each function. Prints how many calls returned each code, or the first call that differs, with status 1.
+call of each function with a report. Prints how many calls returned each code or, with status 1, a wrong call.
 """
 
 import collections
@@ -50,18 +50,18 @@ def kind_of(value):
 
 CALLS = {e.name: tuple(kind_of(value) for value in e.parameters if value.kind != "report") for e in HEADER.functions}
 INDEX = {name: index for index, name in enumerate(CALLS)}
-# The calls that allocate nothing.
+# The calls with a report that allocate nothing.
 CHUNKS = ("open_next", "seal_next", "take_part", "part_open_next", "part_seal_next", "salvage_next", "ranges_last", "ranges_locate", "ranges_chunk")
 # The calls without a report.
 NUMBERS = [e.name for e in HEADER.functions if not any(value.kind == "report" for value in e.parameters)]
-# The states of payloads, parts and ranges, and numbers that are none.
+# The states of payloads, parts and ranges, and numbers that are not a state.
 STATES = (0, 1, 2, 3, 4, 5, 2**32 + 1, MOST)
-# The calls that open a struct, with the index of that argument.
+# The calls that open a payload or ranges, with the index of that argument.
 OPENING = {name: len(CALLS[name]) - 1 for name in header.OPENING}
 
 
 class Driver:
-    """A program that makes calls. A thread compares what it answers, so that it need not wait for the next call."""
+    """A program that makes calls. A thread compares its answers, so that the next call need not wait for that."""
 
     def __init__(self, program):
         self.program, self.process = program, subprocess.Popen([program], stdin=subprocess.PIPE, stdout=subprocess.PIPE)
@@ -69,7 +69,7 @@ class Driver:
         threading.Thread(target=self.compare_all, daemon=True).start()
 
     def ask(self, call, wanted):
-        """Sends a call, with the result, the report or None, and the buffers that it must leave."""
+        """Sends a call; `wanted` has the result, the report or None, and the buffers afterwards."""
         name, flags, arguments, shifts = call
         self.asked.put((call, wanted))
         parts = [bytes((INDEX[name], flags, len(arguments)))]
@@ -238,7 +238,7 @@ class Maker:
         return file_key, data
 
     def file(self):
-        """One of the files made so far; now and then a new one."""
+        """A file key and a file, mostly one of the last 60 made, with its own key."""
         if len(self.files) < 20 or self.is_rare(10):
             self.files.append(self.new_file())
             del self.files[:-60]
@@ -254,7 +254,7 @@ class Maker:
         return file_key, data
 
     def room(self, needed):
-        """A buffer of about this size."""
+        """A buffer of this size, 1 or 100 bytes larger, or smaller."""
         size = self.choice(needed, needed, needed + 1, needed + 100, max(needed - 1, 0), needed // 2, 0, self.random.randrange(needed + 1))
         return bytes([0xEE]) * size
 
@@ -286,7 +286,7 @@ class Maker:
         sealed = reference.sealed_chunk(key, number, is_last, text)
         return (self.damaged(sealed) if self.is_rare(5) else sealed), int(is_last)
 
-    # The arguments of each call.
+    # The arguments of each call that is not in ARGUMENTS.
 
     def for_stanzas(self):
         data = self.front()[1]
@@ -342,7 +342,7 @@ class Maker:
         return data, self.choice(len(data), len(data), self.number()), file_key, self.bytes(56)
 
     def ranges(self):
-        """A struct of ranges, and its file, if there is one."""
+        """A struct of ranges and a file, mostly the struct's own."""
         file_key, data = self.file()
         try:
             key, first = model.started(data, file_key)
@@ -354,7 +354,7 @@ class Maker:
         return struct.pack("<32s3Q", key, first, sealed, self.choice(1, 2, 2, 2)), data
 
     def piece(self, ranges, data, index):
-        """A buffer of about the size of a piece."""
+        """The bytes of a piece of a file, now and then damaged."""
         first, sealed = struct.unpack_from("<2Q", ranges, 32)
         length = model.piece_length(sealed, index)
         piece = data[first + SEALED * index : first + SEALED * index + min(length, SEALED)] if first < len(data) else b""
@@ -407,7 +407,7 @@ class Maker:
         return [a if isinstance(a, int) else bytearray(a) for a in made]
 
     def null_calls(self):
-        """Each call with each pointer that a length follows null."""
+        """Each call with a null pointer for each pointer that a length follows, one at a time."""
         for name, kinds in CALLS.items():
             for at in (i for i, kind in enumerate(kinds) if kind in ("b", "o", "s")):
                 for length in (0, 24, 2**62 // 24 * 24):
@@ -440,7 +440,7 @@ class Maker:
                 yield call_of("take_part", payload, count, bytes(64))
 
     def ranges_in_each_state(self):
-        """Each edge of ranges of each length in each state."""
+        """Calls on ranges of each length in each state, at the edges of chunks and plaintext."""
         for state, sealed in itertools.product(STATES, (0, TAG, TAG + 1, SEALED, SEALED + 1, 2 * SEALED, MOST - 200, MOST - 199)):
             ranges, plain = struct.pack("<32s3Q", self.keys[0], 200, sealed, state), model.plain_length(sealed)
             last = model.piece_length(sealed, model.last_index(sealed))
@@ -467,7 +467,7 @@ class Maker:
         return name, flags, arguments, shifts
 
     def refused_calls(self):
-        """A successful call of each function, on threads and with each allocation refused."""
+        """A successful call of each function with a report, on threads and refusing allocations."""
         for name in (name for name in CALLS if name not in NUMBERS):
             is_long = name in ("encrypt", "decrypt", "encrypt_key", "decrypt_key")
             self.one_long_in = 1 if is_long else 400
@@ -517,8 +517,8 @@ def expected(name, arguments):
 
 
 class Journeys:
-    """Calls that follow from each other: what one writes is what the next one gets. `make` makes a call in the form of
-    Maker.call, and returns its code, its report, and its buffers after it."""
+    """Chains of calls, in which a call gets what earlier calls wrote. `make` makes a call in the
+    form of Maker.call, and returns its code, its report, and its buffers after it."""
 
     FILE_KEY, NONCE, SALT = SEED[:16], SEED[16:32], SEED[32:]
     # Texts that are stanzas or not, and words that are arguments or not.
@@ -535,8 +535,8 @@ class Journeys:
         return self.make(*call_of(name, *arguments, flags=self.count % 2 * AT_START | THREADS * (self.count % 16 == 0)))
 
     def in_parts(self, payload, kind, chunks):
-        """Opens or seals the chunks of a payload once for each number of first chunks that are taken as a part; if that
-        number is odd, the part comes last. Returns the chunks."""
+        """Opens or seals the chunks of a payload with no chunk taken as a part, then with the first one,
+        the first two and so on. For an odd number the part's chunks come last. Returns the chunks."""
         last = len(chunks) - 1
         for count in range(last + 1):
             payload_now, part, made = payload, bytes(64), {}
@@ -565,7 +565,7 @@ class Journeys:
             self.go("ranges_chunk", ranges, at, file[place : place + length])
 
     def written(self, size):
-        """The file of a plaintext of this size, made as a whole and in parts, with enough room and with too little."""
+        """The file of a text of this size, made in parts. Makes and opens it whole too, with room and too little."""
         plain, length = bytes(i * 7 + i // 256 & 255 for i in range(size)), model.sealed_length(size)
         stanza = self.go("wrap_key", self.FILE_KEY, KEY, self.SALT, bytes(86))[2][-1]
         *_, front, payload = self.go("begin", stanza, self.FILE_KEY, self.NONCE, bytes(len(stanza) + 86), bytes(64))[2]

@@ -7,7 +7,7 @@
 #include <string.h>
 #include <sys/random.h>
 
-static uint8_t buf[AGEFILE_SEALED_CHUNK + 1]; /* a sealed chunk, and one more byte, without which it is the last */
+static uint8_t buf[AGEFILE_SEALED_CHUNK + 1]; /* a sealed chunk, and the byte after it, unless it is the last */
 
 /* Whether a call succeeded. If not, prints the reason on standard error. */
 static bool is_ok(uint32_t code, const agefile_report *report)
@@ -17,9 +17,9 @@ static bool is_ok(uint32_t code, const agefile_report *report)
     return code == AGEFILE_OK;
 }
 
-/* Fills `buf` after its first `have` bytes, up to `most`, and increases `have`, which stays below
- * `most` only at the end of the input. Returns false if a read failed. That is not the end: sealing
- * the chunk as the last one would make a complete file of a part of the input. */
+/* Fills `buf` after its first `have` bytes, up to `most` or the end of the input, and increases
+ * `have`. False if a read failed: the chunk must then not be sealed as the last one, because that
+ * would make a complete file of a part of the input. */
 static bool fill(size_t *have, size_t most)
 {
     *have += fread(buf + *have, 1, most - *have, stdin);

@@ -9,13 +9,13 @@ r"""Reads and writes age v1 encrypted files (age-encryption.org/v1).
         print(notes.read())
 
 `open` opens a file as a seekable file of its plaintext, or a new file to be written. `encrypt`,
-`decrypt`, `inspect` and `rewrap` work on bytes in memory, `copy` and `rewrap_copy` from a file or
-pipe to another; `salvage` saves what is left of a damaged file. Files for a `Passphrase` are
-exchanged with `age`; only agep and this library open files for a `Key`.
+`decrypt` and `rewrap` work on bytes in memory, `inspect` also on files, `copy` and `rewrap_copy`
+from a file or pipe to another; `salvage` saves what is left of a damaged file. Files for a
+`Passphrase` can be exchanged with `age`; only agep and libagefile open files for a `Key`.
 
 Any number of threads may make calls. They may share an open binary file, whose calls take turns,
 but only one of them may read its lines. Memory is not wiped, and constant time is not promised. The
-code of libagefile, the library underneath, is proved; this package is ordinary, tested code.
+library underneath, libagefile, is proved except for its layer in C; this package is only tested.
 """
 
 from __future__ import annotations
@@ -39,7 +39,7 @@ __all__ = [
     "salvage",
 ]
 
-# Tracebacks and pickles name this package, and not its files.
+# Tracebacks and pickles name classes and functions by this package, not by its private modules.
 for _each in (*map(globals().get, __all__), _reopen, _Stanzas):
     if hasattr(_each, "__qualname__"):
         _each.__module__ = __name__

@@ -7,7 +7,7 @@ from typing import Any
 
 
 class Code(enum.IntEnum):
-    """The codes of the C library. None is ever reused."""
+    """The codes of libagefile. No code is ever reused."""
 
     _text: str
 
@@ -59,12 +59,12 @@ _DETAILS = {
 
 
 class AgeError(Exception):
-    """A file or a call was refused.
+    """A file or a call was refused or, in agefile.fsspec, a read failed.
 
     `code` is the code of the library, or 0 if another library made this error from a text, as Dask
     does. `place` is the line of a header, counted from 1, or the chunk, counted from 0. `detail` is
     the part of a malformed stanza, 1 to 5. `place` and `detail` are 0 if the error has none.
-    `filename` is the path or the descriptor of the file, the name of its object, or None.
+    `filename` is a path, a descriptor, the `name` or `path` of a file object or opener, or None.
     """
 
     def __init__(
@@ -97,7 +97,7 @@ class AgeMemoryError(AgeError, MemoryError):
 
 
 class AgeChangedError(AgeError):
-    """The file was cut while it was open, or had another length when a pickle opened it again."""
+    """The file was cut while open, or had another length when an unpickled Reader opened it."""
 
     def __init__(self, code: int | str = Code.CHUNK_SHORT, *rest: Any) -> None:
         super().__init__(code, *rest)

@@ -47,15 +47,15 @@ def open(
 
     Modes `rb` (returns a Reader) and `r` (text) read the plaintext with `identities`. The file must
     be seekable; `copy` reads pipes. A file object that is not an open file of the system, nor a
-    buffer over one, is read with its `seek` and `read`, so only one thread at a time may use it.
+    buffer over one, is moved by `seek` before each read, so only one thread at a time may use it.
 
     Modes `wb` and `xb` (return a Writer), `w` and `x` (text) write a new file for `recipients`. It
-    is complete after `commit` or the clean end of its `with` block, and never otherwise; until then
-    every reader refuses it. `close` without either warns and raises a ValueError.
+    is complete only after `commit` or the clean end of its `with` block; until then every reader
+    refuses it. `close` without either warns and, unless an exception is handled, raises ValueError.
 
     An existing file keeps its contents until the first byte is written or, with `atomic`, until the
-    new file beside it is complete. Text is UTF-8 unless `encoding` names another. AgeError if no
-    identity opens the file or its last chunk is damaged; BlockingIOError if another writer has it.
+    new file beside it is complete. Text is UTF-8 by default. AgeError, for example, if no identity
+    opens the file or its last chunk is damaged; BlockingIOError if another writer has it.
     """
     kind = mode.replace("b", "").replace("t", "")
     if kind not in ("r", "w", "x") or len(mode) > 2 or {"b", "t"} <= set(mode):
@@ -66,7 +66,7 @@ def open(
     if "b" in mode and is_given:
         raise ValueError("a binary mode takes no encoding, errors or newline")
     words["encoding"] = encoding or "utf-8"
-    # Wrong arguments are refused before anything is opened.
+    # A wrong `encoding` or `newline` is refused before anything is opened.
     used = io.TextIOWrapper(io.BytesIO(), **words).encoding if is_given else "utf-8"
     if kind == "r":
         if identities is None or recipients is not None or atomic:
@@ -80,7 +80,7 @@ def open(
     if "b" in mode:
         return below
     if kind != "r" and codecs.lookup(used).name in ("utf-16", "utf-32"):
-        # A TextIOWrapper writes the byte-order mark only to a seekable file.
+        # In these, a TextIOWrapper writes the byte-order mark only to a seekable file.
         below.write("".encode(words["encoding"]))
     text = (io.TextIOWrapper if kind == "r" else TextWriter)(below, **words)
     text.mode = mode

@@ -130,8 +130,8 @@ def check(name: str, *arguments: Any) -> Report:
 
 
 def for_chunks(name: str, struct: ctypes.Structure) -> Callable[..., int]:
-    """Returns a function for the chunks of a payload, part or ranges, for one thread at a time. It
-    returns the length in the report, or raises the error of a code other than 0."""
+    """Returns a function that calls `name` on a Payload, Part or Ranges, for one thread at a time.
+    It returns the length in the report, or raises the error of a code other than 0."""
     report = Report()
     step, out = functools.partial(_functions[name], ctypes.byref(struct)), ctypes.byref(report)
 
@@ -150,7 +150,7 @@ def address_of(memory: bytes) -> int:
 
 
 def view_of(memory: bytes) -> memoryview:
-    """A view that may be written, of new bytes to which nobody else refers yet."""
+    """A writable view of new bytes to which nobody else refers yet."""
     array = (ctypes.c_char * len(memory)).from_address(address_of(memory))
     array.owner = memory  # type: ignore[attr-defined]
     return memoryview(array).cast("B")
@@ -161,7 +161,7 @@ _new_bytes.argtypes = [address, ctypes.c_ssize_t]
 _new_bytes.restype = ctypes.py_object
 
 
-# Huge pages, if the system has them: faults for pages of 4 KiB take as long as the cipher.
+# Huge pages, if the system has them: page faults for pages of 4 KiB take as long as the cipher.
 _advise = getattr(ctypes.CDLL(None), "madvise", None)
 _GREAT, _PAGE = 1 << 22, mmap.PAGESIZE
 _ADVICE = getattr(mmap, "MADV_HUGEPAGE", 14)

@@ -1,4 +1,4 @@
-"""A caller's files, given as paths, descriptors, openers or file objects."""
+"""A caller's files (paths, descriptors, openers, file objects), and new files with their locks."""
 
 from __future__ import annotations
 
@@ -16,7 +16,7 @@ from typing import TYPE_CHECKING, Any, BinaryIO
 from ._errors import AgeError
 
 _ACL = "system.posix_acl_access"
-# The end of a new file's name until it takes the place of an old one. It is that of agep, too.
+# The end of a new file's name until the file is complete. agep uses it too.
 NEW = ".agep-new"
 
 if TYPE_CHECKING:
@@ -29,7 +29,7 @@ else:
 
 
 def is_path(file: Any) -> bool:
-    """Whether this is a path, and not an open file that has one, such as those of fsspec."""
+    """Whether this is a path, and not an open file with `__fspath__`, such as fsspec's."""
     return isinstance(file, (str, bytes, os.PathLike)) and not isinstance(file, io.IOBase)
 
 
@@ -50,7 +50,7 @@ def raw_of(file: Any) -> io.FileIO | None:
 
 
 def name_of(file: Any) -> Any:
-    """The path or the descriptor, else the name of the object, or None."""
+    """The path or the descriptor, else the `name` or `path` of the object, or None."""
     if is_path(file):
         return os.fspath(file)
     return file if isinstance(file, int) else getattr(file, "name", getattr(file, "path", None))
@@ -84,8 +84,8 @@ def _stat_of(file: Any) -> os.stat_result | None:
 
 
 def _refuse_source(sink: Any, source: Any) -> None:
-    """Refuses a sink that is the source or, if that is a Reader, the file below it: it would be
-    emptied, or grow while it is read. A socket or terminal may be both."""
+    """Refuses a sink that is the source, or the file below a source that is a Reader: that file
+    would be emptied, or grow while it is read. A socket or terminal may be both."""
     source = getattr(source, "encrypted", source)
     to, of = _stat_of(sink), _stat_of(source)
     if to is None or of is None:
@@ -125,7 +125,7 @@ class Locked(io.FileIO):
 
     def close(self) -> None:
         if not self.closed and self._process == os.getpid():
-            # Unlocks, because the descriptor of a forked child would keep the lock. A child does not.
+            # The locking process unlocks: the descriptor of a forked child would keep the lock.
             with contextlib.suppress(OSError):
                 fcntl.flock(self.fileno(), fcntl.LOCK_UN)
         super().close()
@@ -136,8 +136,8 @@ def _busy(name: Any) -> BlockingIOError:
 
 
 def _refuse_busy(name: str, target: str = "") -> None:
-    """Refuses a file that another writer has locked. Given its target, removes this name if a
-    killed writer left it: a regular file's only name, or a second one of the target, by a link."""
+    """Refuses a file that another writer has locked. Given a target, removes a file that a killed
+    writer left: a regular file with only this name, or the target itself under a second name."""
     flags = os.O_RDWR | os.O_NOFOLLOW | os.O_NONBLOCK | os.O_CLOEXEC
     try:
         with Locked(name, "rb+", opener=lambda name, _: os.open(name, flags)) as file:
@@ -178,8 +178,8 @@ class Output(Locked):
 
 
 class Replacement(Locked):
-    """A new file beside the file of a path, with its owner and permissions. `replace_old` moves it
-    to the path; `close` removes it if that was not called."""
+    """A new file beside that of a path, with the old file's owner and permissions. `replace_old`
+    moves it to the path; `close` removes it if it was not moved."""
 
     _is_beside = False
 
@@ -196,7 +196,7 @@ class Replacement(Locked):
         if found is not None and not stat.S_ISREG(found.st_mode):
             raise ValueError(f"only a regular file is replaced, which {path!r} is not")
         if found is not None and end == NEW:
-            # As without `atomic`, it must be one that may be written, and has no other writer.
+            # As without `atomic`, the old file must be writable and have no other writer.
             Output(path, "ab").close()
         _refuse_busy(name, self._target)
         try:
@@ -216,8 +216,8 @@ class Replacement(Locked):
             self._take_permissions(found)
 
     def _take_permissions(self, found: os.stat_result) -> None:
-        """Takes over owner, group, ACL and mode without set-id bits, where the system allows it. If
-        the group or the ACL cannot be kept, the group gets no permissions."""
+        """Takes over owner, group, ACL and the mode's permission bits, where the system allows it.
+        If the group or the ACL cannot be kept, the group gets no permissions."""
         new, kept, acl = self.fileno(), 0o707, None
         for owner in (found.st_uid, -1):
             with contextlib.suppress(OSError):
@@ -231,7 +231,7 @@ class Replacement(Locked):
             if acl is not None or error.errno not in (errno.ENODATA, errno.ENOTSUP):
                 kept = 0o707
             with contextlib.suppress(OSError):
-                # The mode's group bits, as the mask of an inherited ACL, would put it into effect.
+                # The mode's group bits would become an inherited ACL's mask, and put it in force.
                 os.removexattr(new, _ACL)
         os.fchmod(new, found.st_mode & kept)
 

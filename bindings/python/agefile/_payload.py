@@ -1,4 +1,4 @@
-"""Payloads in order: chunk by chunk, and on several threads."""
+"""The beginning of a file, and payloads in order: chunk by chunk, and on several threads."""
 
 from __future__ import annotations
 
@@ -22,7 +22,7 @@ PART = 16
 
 class Front:
     """The beginning of a source: its header and nonce, and the bytes read after them. Reads no more
-    than the source has ready, so that a wrong key is reported while a pipe still waits."""
+    than the source has ready, so that a wrong key is reported before a pipe has more bytes."""
 
     def __init__(self, source: Any) -> None:
         self.bytes, self._source, self._ended = bytearray(), source, False
@@ -142,7 +142,7 @@ class _Batch:
         lib.check("take_part", ctypes.byref(payload), PART, ctypes.byref(self.part))
 
     def run(self) -> tuple[int, AgeError | None]:
-        """Processes the chunks. Returns how many are done, and the error that the next one met."""
+        """Processes the chunks. Returns how many are done, and the next one's error or None."""
         convert = lib.for_chunks(self.step.of_part, self.part)
         for index in range(PART):
             try:
@@ -166,7 +166,7 @@ def _read_batch(step: _Step, source: BinaryIO, room: Chunk) -> int:
 
 
 def run(step: _Step, payload: lib.Payload, source: BinaryIO, sink: Any, threads: int) -> int:
-    """Like `one_by_one`, on several threads. Has two batches for each, and one more, in memory."""
+    """Like `one_by_one`, on several threads. Holds at most two batches per thread, and one more."""
     if threads == 1:
         return one_by_one(step, payload, source, sink)
     total, waiting = 0, collections.deque[tuple[_Batch, Any]]()

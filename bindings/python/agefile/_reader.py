@@ -1,4 +1,4 @@
-"""The plaintext of an age file as a seekable file, which opens only the chunks that are read."""
+"""The plaintext of an age file as a seekable file, which opens the chunks read, and the last."""
 
 from __future__ import annotations
 
@@ -23,7 +23,7 @@ _Result = TypeVar("_Result")
 
 class _Source:
     """The file below, which is read at offsets, and its opener. The file's own position may be
-    anywhere, because forked processes share it, and so do other readers of one file object."""
+    anywhere: forked processes and other readers of the same file object move it."""
 
     def __init__(self, file: BinaryIO, opener: Any, owned: bool) -> None:
         self.file, self.opener, self._owned, self._at = file, opener, owned, 0
@@ -75,7 +75,7 @@ class _Chunks:
         self._first: int = ranges.first
         self._sealed_len: int = ranges.sealed_len
         self._lock = threading.Lock()
-        # Why a thread's read was short: a bad chunk, the source, or the handler of a signal.
+        # What made a thread's read short: the error of a chunk, the source or a signal's handler.
         self.errors: dict[int, Exception] = {}
         self._open_last()
 
@@ -99,7 +99,7 @@ class _Chunks:
         return length
 
     def _piece(self, at: int) -> memoryview:
-        """The text from this byte, which must not be at the end, to the end of its chunk."""
+        """The text from this offset, which must be below `length`, to the end of its chunk."""
         number, start = divmod(at, lib.TEXT_CHUNK)
         if number != self._number:
             length = self._read(number)
@@ -108,8 +108,8 @@ class _Chunks:
         return self._chunk.view[start : self._len]
 
     def fill(self, room: memoryview, at: int, least: int) -> int:
-        """Copies text from a byte on until the room is full or the plaintext ends. Raises the error
-        of a bad chunk, unless at least `least` bytes come before it."""
+        """Copies text from an offset on until the room is full or the plaintext ends. An Exception
+        is kept if `least` is 0; else raised, except an AgeError after `least` bytes or more."""
         done, wanted = 0, min(len(room), self.length - at)
         with self._lock:
             try:
@@ -127,15 +127,15 @@ class _Chunks:
 
 
 class _Plaintext(io.RawIOBase):
-    """A plaintext as a raw file, whose reads may be short. A read ends before a bad chunk, and
-    raises its error if fewer than `least` bytes come before it. `least` is 1, or 0 under a buffer:
-    an exception would make the buffer lose bytes that it has read."""
+    """A plaintext as a raw file. `readinto` ends before a bad chunk, and raises its error if fewer
+    than `least` bytes come before it; `readall` raises it unless `least` is 0. `least` is 1, or 0
+    under a buffer: an exception would make the buffer lose bytes that it has read."""
 
     def __init__(self, chunks: _Chunks, least: int) -> None:
         self.chunks, self._least, self.position = chunks, least, 0
 
     def readinto(self, room: Any) -> int:
-        """Fills the room, or the part of it up to the end of a chunk."""
+        """Fills a room of more than 64 KiB; a smaller one only up to the end of the chunk."""
         self.readable()
         most = lib.TEXT_CHUNK - self.position % lib.TEXT_CHUNK
         with flat(room) as view, view[: most if len(view) <= lib.TEXT_CHUNK else None] as part:
@@ -181,13 +181,13 @@ class _Plaintext(io.RawIOBase):
 class Reader(BinaryBase):
     """The plaintext of an age file, as a seekable binary file.
 
-    Opens only the chunks that are read, so damage in other chunks is not noticed. A call that needs
-    a damaged chunk raises AgeError each time, and the position stays. `read1`, `peek` and
-    `raw.readinto`, whose results may be short, first return the verified bytes before the chunk.
+    Opens only the last chunk and the chunks read, so damage in others is not noticed. A call that
+    needs a damaged chunk raises AgeError each time, and the position stays. Calls whose results may
+    be short, such as `read1`, `peek` and `raw.readinto`, first return the bytes before the chunk.
 
-    A Reader opened from a path or an opener can be pickled, for example for worker processes. The
+    A Reader opened from a path or a picklable opener can be pickled, for example for workers. The
     pickle contains the key of the payload: whoever has it can read the file. The unpickled Reader
-    opens the file again, without scrypt, at its first call, which raises what is wrong with it.
+    opens the file again, without scrypt, at its first call, which raises the error if that fails.
     """
 
     mode = "rb"
@@ -302,7 +302,7 @@ class Reader(BinaryBase):
     def close(self) -> None:
         with self._lock:
             super().close()
-            # First the one whose own lock `readline` holds.
+            # First the buffer, because `readline` holds only the buffer's own lock.
             self._buffer.close()
             self.raw.close()
 
@@ -325,7 +325,7 @@ def open_reader(file: Any, identities: Identities) -> Reader:
         source = _Source(below, file if owned and not is_descriptor else None, owned)
         reader = Reader(_Chunks(source, _unlocked(source, identities), name))
         if is_descriptor:
-            # Until here it stays the caller's, who may try another key.
+            # Until here the descriptor stays the caller's, who may try another key.
             source.file = opened(file)
     except BaseException as error:
         if owned:

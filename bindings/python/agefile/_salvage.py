@@ -12,7 +12,7 @@ from ._payload import Behind, open_source, pieces
 from ._secrets import Identities
 from ._sources import Counted, Progress, read_some, readinto_of, write_all
 
-# What was saved of a chunk, and of the whole, by the numbers of agefile.h.
+# Three values of `agefile_saved` and the two of `agefile_verdict` in agefile.h.
 EARLY, ZEROS, PADDED, WHOLE, CUT = 3, 4, 6, 1, 2
 # A header is read in such pieces, because a read that reaches a bad block may return nothing.
 BLOCK = 4096
@@ -33,10 +33,10 @@ class Salvaged(NamedTuple):
     """What was saved of a file.
 
     `length` is the number of bytes written, zeros included. `chunks` is the number of chunks, and
-    `lost` lists those that are lost. `early` is the latest chunk that is marked as the last and
-    cannot be it, or None: a chunk follows it, or it is empty after other chunks. `trailing` is the
-    number of bytes of the file after the early chunk, or after the last one if there is none.
-    `cut` says that the file is cut short. False if its last chunk is lost, but more may be missing.
+    `lost` lists those that are lost. `early` is None or the latest chunk that is marked as the last
+    and cannot be it: a chunk follows it, or it is empty after other chunks. `trailing` counts the
+    bytes of the file after the early chunk or, if `early` is None, after the last chunk.
+    `cut` says that the file is known to be cut short: if its last chunk is lost, `cut` is False.
     `whole` says that the plaintext is complete and genuine: exactly then `copy` decrypts the file.
     """
 
@@ -60,7 +60,7 @@ class _Skipping:
         self.first, self.unread, self._zeros = 0, set[int](), 0
 
     def read(self, size: int) -> bytes:
-        """Reads from the header, where a failed read is an error."""
+        """Reads a piece for Front, up to the nonce. A failed read is an error here."""
         piece = read_some(self._file, min(size, BLOCK))
         self.at += len(piece)
         return piece
@@ -105,11 +105,11 @@ def salvage(
     `whole` is True. Damaged chunks raise no exception. A wrong key raises AgeError, and so does a
     damaged header, even if a key fits it.
 
-    If a read fails and the source can seek, the chunk is lost, and salvaging continues at the next
-    one. Otherwise the error is raised; without `atomic` the sink has what was saved before.
+    If reading a chunk fails, the chunk is lost, and salvaging continues at the next. If the source
+    cannot seek or would block, raises the error: without `atomic` the sink has what was saved.
 
-    `source`, `sink`, `atomic` and `progress` are those of `copy`, but the sink is never the source:
-    a later try may save more. Uses constant memory, except for the list of losses.
+    `source`, `sink`, `atomic` and `progress` are those of `copy`, but the sink must not be the
+    source: a later try may save more. Uses constant memory, except for the list of losses.
     """
     check_atomic(sink, atomic)
     with reading(source) as file:

@@ -22,7 +22,7 @@ _MARKS = b"\xef\xbb\xbf", b"\xff\xfe", b"\xfe\xff"
 
 
 class Stanza(NamedTuple):
-    """An entry of a header, which holds the file key for a recipient (C2SP age.md, "Recipient
+    """An entry of a header, usually the file key wrapped for a recipient (C2SP age.md, "Recipient
     stanza"). `args` are its type and arguments, `body` is its body."""
 
     args: tuple[str, ...]
@@ -76,27 +76,27 @@ class _Secret:
         return hash(type(self))
 
     def __dask_tokenize__(self) -> str:
-        """A name for this object and its pickles, which for the same reason is not a hash."""
+        """A random name for this object and its pickles: a hash would help to guess the secret."""
         return self._token
 
     def __repr__(self) -> str:
         return f"{type(self).__name__}(..)"
 
     def wrap(self, file_key: bytes) -> list[Stanza]:
-        """Returns the stanza that holds this file key."""
+        """Returns a list of one stanza, which holds this file key."""
         file_key = _file_key(file_key)
         return list(read_header(header_of(self._text(file_key), file_key)).stanzas)
 
     def unwrap(self, stanzas: Sequence[Stanza]) -> bytes | None:
-        """Returns the file key of a header, whose MAC it verifies, or None if this secret does not
-        open it. `stanzas` is that of a Header, or given to an identity; TypeError for any other."""
+        """Verifies a header's MAC and returns its file key, or None if this secret does not fit;
+        else AgeError. TypeError unless `stanzas` is from a Header or was passed to an identity."""
         if not isinstance(stanzas, _Stanzas):
             raise TypeError("pass the stanzas of a Header: without its MAC they are not unwrapped")
         code, file_key = self._find(stanzas)
         return file_key if code == Code.OK else None
 
     def _find(self, stanzas: _Stanzas) -> tuple[int, bytes]:
-        """The code 0 and the file key, or the code of a secret that does not fit."""
+        """The code 0 and the file key, or the code of a secret that does not fit. Raises others."""
         code, report, file_key = self._unlock(stanzas.text)
         if code not in (Code.OK, Code.NO_MATCH, Code.WRONG_KEY):
             raise AgeError.of(code, report.place, report.detail)
@@ -158,7 +158,7 @@ class Passphrase(_Secret):
         """Reads a passphrase file as `agep -p` does: at most 65,536 bytes, else ValueError; one LF
         at the end is removed. `file` is a path, a descriptor or a binary file object. A passphrase
         that ends in CR or LF, or begins with a byte-order mark, which nobody types, can open files;
-        to make one with it raises ValueError."""
+        making a file with it raises ValueError."""
         room = bytearray(lib.TEXT_CHUNK + 1)
         with reading(file) as source:
             length = read_into(source, memoryview(room))

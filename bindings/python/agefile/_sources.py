@@ -1,4 +1,4 @@
-"""Reading and writing whole lengths of the file below."""
+"""Reads from sources until a buffer is full, writes all bytes to sinks, and reports progress."""
 
 from __future__ import annotations
 
@@ -14,7 +14,7 @@ Progress = Callable[[int, Optional[int]], object]
 
 
 def flat(data: Any, instead: str = "bytes") -> memoryview:
-    """A view of an object's bytes, even with a zero in its shape. For a str, says what to pass."""
+    """A view of an object's bytes, even with a zero in its shape. Raises TypeError for a str."""
     if isinstance(data, str):
         raise TypeError(f"a bytes-like object is required, not 'str': pass {instead}")
     with memoryview(data) as view:
@@ -31,8 +31,8 @@ def _checked(count: Any, least: int, most: int, call: str) -> int:
 
 
 def has_own(source: Any, method: str) -> bool:
-    """Whether its class has this method. A wrapper that counts in `read`, such as those of tqdm,
-    hands the other methods of its file on uncounted."""
+    """Whether the source's own class has this method. A wrapper that counts in `read`, such as
+    those of tqdm, passes calls of other methods to its file without counting."""
     return hasattr(type(source), method)
 
 
@@ -85,9 +85,9 @@ def write_all(sink: Any, data: Any) -> None:
 
 
 class Counted:
-    """A source that reports its progress after each 64 KiB and at its end: the bytes read, and how
-    many there are from its position on, or None. `file` is the file from which the source reads, if
-    it is not one itself."""
+    """A source that reports its progress after every 64 KiB or more and at its end: the number of
+    bytes read, and the total as `_length_of` finds it. `file` is the file whose length counts, if
+    that is not the source."""
 
     def __init__(self, source: Any, progress: Progress, file: Any = None) -> None:
         self._source, self._readinto, self._progress = source, readinto_of(source), progress
@@ -113,8 +113,8 @@ class Counted:
 
 
 def _length_of(source: Any) -> int | None:
-    """The number of bytes from the position on, or None where a seek is impossible or slow, as in
-    compressed files."""
+    """The number of bytes from the position on, or None if it is 0, as in /proc, if a seek fails,
+    or if the source is not a file of the system, a BytesIO or a Reader: its seek may be slow."""
     with contextlib.suppress(OSError):
         if raw_of(source) or isinstance(source, io.BytesIO) or hasattr(source, "encrypted"):
             at = source.tell()

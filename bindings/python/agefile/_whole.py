@@ -61,8 +61,8 @@ def inspect(data: Any) -> Header:
 def rewrap(data: Any, *, identities: Identities, recipients: Recipients) -> bytes:
     """Replaces the header of an age file by one for other recipients, and returns the new file.
 
-    File key and payload stay: whoever kept the old header can still open the file. The payload is
-    not verified. Raises AgeError if no identity opens the header.
+    File key and payload stay: whoever kept the old header and its secret can still open the file.
+    The payload is not verified. Raises AgeError, for example if no identity opens the header.
     """
     source, sink = io.BytesIO(data), io.BytesIO()
     rewrap_copy(source, sink, identities=identities, recipients=recipients)
@@ -80,7 +80,7 @@ def rewrap_copy(
         below: Any = file if progress is None else Counted(file, progress)
         front = Front(below)
         old, file_key = front.unlock(identities)
-        # This verifies the MAC of the old header, and wants a nonce.
+        # Verifies the MAC of the old header. The nonce may be any, but the call needs one.
         open_payload(old + bytes(lib.NONCE), file_key)
         header = header_of(stanzas_text(recipients, file_key), file_key)
         with writing(sink, file, atomic=atomic) as out:
@@ -105,15 +105,15 @@ def copy(
     """Encrypts a file to another for `recipients`, or decrypts it with `identities`.
 
     Source and sink are paths, descriptors or binary file objects, also pipes. Uses constant memory,
-    and up to `threads` threads. Returns the length of the plaintext.
+    and for the chunks up to `threads` threads. Returns the length of the plaintext.
 
-    Raises AgeError if no identity opens the source, or at a damaged chunk: without `atomic` the
-    sink has the plaintext before it. An existing file at the sink's path keeps its contents until
-    the first byte is written or, with `atomic`, until the new file beside it is complete: an error
-    changes nothing unless its text says `replaced`. A new plaintext is readable only by its owner.
+    Raises AgeError, for example for a wrong key, or for a damaged chunk: without `atomic` the sink
+    has the plaintext before it. An existing file at the sink's path keeps its contents until the
+    first byte is written. With `atomic` it keeps them until the new file beside it is complete;
+    errors change nothing unless they say `replaced`. A new plaintext is readable only by its owner.
 
-    `progress` is called with the number of bytes read from the source and with the number of all,
-    or None if that is not known, as of pipes. An exception that it raises ends the copy.
+    `progress` is called with the number of bytes read from the source and with their total, or None
+    if the total is 0 or not known, as of pipes. An exception that it raises ends the copy.
     """
     if (recipients is None) == (identities is None):
         raise TypeError("copy takes recipients to encrypt, or identities to decrypt")

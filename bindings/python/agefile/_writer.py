@@ -66,7 +66,7 @@ class _Sealer(io.RawIOBase):
     def _take(self, rest: memoryview) -> None:
         at = 0
         while at < len(rest):
-            # A full chunk waits for the byte after it: it may be the last one.
+            # A full chunk waits for a byte after it, without which the chunk is the last.
             if self._filled == lib.TEXT_CHUNK:
                 self._seal(False)
             count = min(lib.TEXT_CHUNK - self._filled, len(rest) - at)
@@ -75,7 +75,7 @@ class _Sealer(io.RawIOBase):
             at += count
 
     def spoil(self) -> None:
-        """Refuses all further writes and the commit, because text was lost."""
+        """Makes a file that is not closed refuse all further writes and the commit."""
         with self._lock:
             self._failed |= not self.closed
 
@@ -144,18 +144,18 @@ class _Sealer(io.RawIOBase):
 class Writer(BinaryBase):
     """The plaintext of a new age file, as a binary file to write.
 
-    **The file is complete after `commit` or the clean end of its `with` block, and never
-    otherwise.** Until then every reader refuses it, or it keeps its old contents: the header is
-    written before the first full chunk, or by `flush`.
+    **The file is complete only after `commit` or the clean end of its `with` block** or, in
+    agefile.fsspec, `close`. Until then a file with `atomic` keeps its old contents. Any other file
+    keeps them until its header is written, with a full chunk or by `flush`; then readers refuse it.
 
     `close` in a `with` block ends writing, and the block's clean end completes the file; so
-    wrappers that close it, such as a TextIOWrapper, belong inside. Elsewhere `close` gives up: it
-    warns and raises a ValueError. A forked child cannot write: it would reuse its parent's nonces.
+    wrappers that close it (TextIOWrapper) belong inside. Elsewhere `close` gives up with a warning
+    and, if no exception is handled, ValueError. A forked child cannot write: it would reuse nonces.
     """
 
     # A TextIOWrapper asks for it at each write.
     closed: bool = property(operator.attrgetter("_sealer.closed"))  # type: ignore[assignment]
-    # Whether `close` only ends writing, and what follows decides: the end of a `with` block.
+    # Whether `close` only ends writing, and the end of a `with` block or the finalizer decides.
     _is_decided_later = False
     # The TextWriter above, if there is one: what it has not passed on belongs to the file.
     _text: Any = staticmethod(lambda: None)
@@ -184,17 +184,17 @@ class Writer(BinaryBase):
         return self._buffer.writable()
 
     def flush(self) -> None:
-        """Writes the header, and flushes the sealed chunks. What fills no chunk stays in memory."""
-        # fsspec flushes what an exception has broken, too: the old file would be lost.
+        """Writes the header, and flushes the sealed chunks. The newest chunk stays in memory."""
+        # fsspec flushes even after an exception, which would destroy the old file.
         is_broken = self._commits_at_close and not self._is_decided_later and sys.exc_info()[0]
         if self._sealer.writable() and self._sealer.is_parent() and not is_broken:
             self._buffer.flush()
             self._sealer.send()
 
     def _end(self) -> None:
-        """Ends writing, unless `close` or another thread has."""
+        """Ends writing, unless `close` or another thread has ended it."""
         try:
-            # After `detach` it has no buffer.
+            # After `detach` the text file has no buffer.
             if (text := self._text()) is not None and text.buffer is not None:
                 text.flush()
             self._buffer.truncate()
@@ -215,12 +215,12 @@ class Writer(BinaryBase):
         self._sealer.finish(True)
 
     def abort(self) -> None:
-        """Closes the file without its last chunk, so that every reader refuses it."""
+        """Closes the file without its last chunk: readers refuse it, or it has its old contents."""
         self._sealer.finish(False)
 
     def close(self) -> None:
-        """Ends writing in a `with` block, whose end decides. Elsewhere this is `abort`, and warns and,
-        unless another exception is being handled, raises a ValueError."""
+        """Ends writing in a `with` block, whose end decides. Elsewhere, except in agefile.fsspec, this
+        is `abort` with a warning and, unless an exception is being handled, a ValueError."""
         if self.closed or not self._sealer.is_parent():
             self._sealer.close()
         elif self._is_decided_later:
@@ -232,7 +232,7 @@ class Writer(BinaryBase):
                 self._warn()
                 raise
         else:
-            # In a pool nobody may ask for an error, and `logging` drops it. A warning may raise.
+            # Warns because pools and `logging` may drop the error. The warning itself may raise.
             self._sealer.spoil()
             self._warn()
             self.abort()
@@ -266,7 +266,7 @@ class Writer(BinaryBase):
             raise ValueError(self._loss())
 
     def _dealloc_warn(self, _: Any) -> None:
-        """Finalizers of wrappers call this, then `close`, whose error they drop: ours prints it."""
+        """Finalizers of wrappers call this, then `close`, and drop errors: so `__del__` raises."""
         self._is_decided_later = True
 
 
@@ -327,7 +327,7 @@ class TextWriter(io.TextIOWrapper):
         self.buffer.close()
 
     def __del__(self) -> None:
-        # It is None after `detach`.
+        # `buffer` is None after `detach`.
         if self.buffer is not None:
             self.buffer.__del__()
 

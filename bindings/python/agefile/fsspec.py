@@ -6,13 +6,13 @@
     with fsspec.open("age::s3://bucket/a.age", age={"identities": secret}) as file:
         data = file.read()
 
-Names are those of the file system below. Each worker opens only the chunks of its own blocks, so
-damage in one block fails only its task, and damage in the header or in the last chunk every task.
+Names are those of the file system below. Each task opens only the chunks of its block, the next
+ones to find the end of a line, and the file's last one; damage in other chunks does not fail it.
 Do not replace a file between the making of a table and its computation: as with plain files, Dask
 then reads as many bytes as the old file had.
 
-The pickle of the file system for a worker contains its identities and recipients, and the keys of
-the last files that it read, so that scrypt runs once for each: whoever has it has the secrets.
+A pickle of the file system contains its recipients, its identities and, unless each identity is a
+Key, the keys of the last files read, to run scrypt once for each: whoever has it has the secrets.
 """
 
 from __future__ import annotations
@@ -39,7 +39,7 @@ from ._secrets import Identities, Key, Recipients, as_list
 
 # How a file that does not exist is reported.
 _ABSENT = FileNotFoundError, NotADirectoryError, IsADirectoryError
-# The number of files whose keys are kept; the pickle of a file system contains these keys.
+# The largest number of files whose keys are kept; the pickle of a file system contains them.
 _MOST_KEYS = 512
 
 
@@ -52,8 +52,8 @@ def _refuse_slips(options: dict[str, Any], *others: str) -> None:
 
 @contextlib.contextmanager
 def _reading(path: str) -> Iterator[None]:
-    """Makes the error of a failed read an AgeError. Users such as zarr take an OSError for an absent
-    file, and so for zeros, which they then write."""
+    """Makes an OSError an AgeError, unless the file is absent. Users such as zarr take any OSError
+    for an absent file, and so for zeros, which they then write."""
     try:
         yield
     except OSError as error:
@@ -78,7 +78,7 @@ class AgeFileSystem(AbstractFileSystem):  # type: ignore[misc]
     """The plaintexts of the age files in another file system, which are read with `identities` and
     written for `recipients`. With `atomic` a new file replaces the old one once it is complete, as
     in `agefile.open` or, if the file system below is not local, by its `mv`. A failed read raises
-    AgeError. `rm`, `mv`, `cp`, `created` and `modified` are those of the file system below.
+    AgeError unless the file is absent. `rm`, `mv` and the like are those of the file system below.
 
     The file system below is `fs`, else that of the protocol of a chain, else the local one. `ls`
     opens no file, so its entries have no sizes; `info` of a single file has its size.
@@ -102,11 +102,11 @@ class AgeFileSystem(AbstractFileSystem):  # type: ignore[misc]
         groups = self._identities or [], self._recipients or []
         names = [[getattr(it, "_token", os.urandom(16).hex()) for it in group] for group in groups]
         self._token = tokenize(self.fs._fs_token, fo, atomic, names)
-        # For each file opened: its state, and its payload's key with the offsets of its chunks. With
-        # a Key no time would be saved.
+        # For each of the last files read: its state, and its payload's key with the offsets of its
+        # chunks. Not kept if each identity is a Key, because no time would be saved.
         self._keys: collections.OrderedDict[str, tuple[str, bytes]] = collections.OrderedDict()
         self._keeps = any(type(each) is not Key for each in self._identities or [])
-        # The path of a chain is in its target.
+        # In a chain, such as `age::file://a.age`, the path is in `fo`, and the one given is empty.
         self._strip_protocol = self._name_below
 
     @property
@@ -220,7 +220,7 @@ class AgeFileSystem(AbstractFileSystem):  # type: ignore[misc]
         return {name: each for name, each in found.items() if not isinstance(each, is_left_out)}
 
     def cat_ranges(self, *arguments: Any, **options: Any) -> Any:
-        """Raises each error, for the same reason. The fifth argument would be `on_error`."""
+        """Raises each error, for the reason in `cat`. Ignores `on_error`, the fifth argument."""
         return super().cat_ranges(*arguments[:4], **{**options, "on_error": "raise"})
 
     def get_file(self, rpath: str, lpath: Any, *arguments: Any, **options: Any) -> None:
@@ -244,7 +244,7 @@ class AgeFileSystem(AbstractFileSystem):  # type: ignore[misc]
         super().put_file(lpath, rpath, *arguments, **options)
 
     def _refuse_same(self, path: str, local: Any) -> None:
-        """Refuses a local file that is the age file itself or its new file: `age://X` is file X."""
+        """Refuses a local file that is the age file itself, as in `get(X, X)`, or its new file."""
         name, fs = self._strip_protocol(path), self.fs
         while not isinstance(fs, LocalFileSystem) and getattr(fs, "fs", None) is not None:
             name, fs = fs._join(name) if hasattr(fs, "_join") else name, fs.fs

@@ -2,8 +2,8 @@
 
     dask_sum.py KEY_FILE FILE
 
-KEY_FILE holds 32 bytes. Each worker opens only the chunks of its own blocks. Damage in one block fails
-its task with the file and the number of the chunk."""
+KEY_FILE holds 32 bytes. Each task opens the chunks of its block, the next ones to find a line's end,
+and the last one. If it needs a damaged chunk, it fails with the file and the chunk's number."""
 
 import sys
 

@@ -46,7 +46,7 @@ def public_of(secret):
 
 
 def cipher(secret, other, share, public):
-    """The cipher of a body. A point of low order as the other's key is refused by exchange."""
+    """The cipher of a body. `exchange` refuses a share or key that is a point of low order."""
     shared = secret.exchange(X25519PublicKey.from_public_bytes(other))
     info = b"age-encryption.org/v1/X25519"
     return ChaCha20Poly1305(HKDF(SHA256(), 32, share + public, info).derive(shared))

@@ -1,4 +1,4 @@
-"""Shared by the tests of the package: a key, texts, damage, threads, and the messages of agep."""
+"""Shared by the tests of the package: among others a key, texts, damage, threads and devices."""
 
 import collections
 import concurrent.futures
@@ -62,7 +62,7 @@ def in_threads(work, count=4):
 
 
 def in_time(work, seconds=20):
-    """Returns the function's result or exception. Raises an AssertionError if it does not return."""
+    """Returns the function's result or Exception. AssertionError if there is none in time."""
     found = []
 
     def run():
@@ -106,15 +106,15 @@ def error_of(call, kind=AgeError):
 
 
 def fault_of(call, kind=AgeError):
-    """The code and the place of this error."""
+    """The code and the place of the error that the call raises."""
     error = error_of(call, kind)
     return error.code, error.place
 
 
 class Device(io.RawIOBase):
-    """A file in memory. Its call of this kind and number fails, or each from this one on: it raises an exception, or
-    returns what a function makes of the number of bytes asked for. Bad blocks of 512 bytes, given by number, cannot be
-    read: a read ends before one and fails in it, or fails as soon as it reaches one."""
+    """A file in memory. Its call of this kind and number fails and, without `once`, so do later ones: a call raises an
+    exception, or returns what a function makes of the number of bytes asked for. Bad blocks of 512 bytes cannot be
+    read: with `ends_before` a read ends before one, and fails if it begins in one; else it fails if it reaches one."""
 
     def __init__(self, data=b"", kind="", number=0, failure=None, once=True, most=40000, bad=(), ends_before=True, can_seek=True):
         self.below, self.most, self.fault, self.once = io.BytesIO(data), most, (kind, failure), once

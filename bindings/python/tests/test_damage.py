@@ -48,7 +48,7 @@ def words():
     return b"".join(b"%d,%s\n" % (number, text(16)[:5].hex().encode()) for number in range(30000))[:LENGTH]
 
 
-# Each way of reading, as a function of an open file. `Positions` has the calls of a Reader itself.
+# Ways to read a whole file, as functions of an open file. `Positions` has single calls.
 WAYS = {
     "read": lambda file: file.read(),
     "readlines": lambda file: b"".join(file.readlines()),
@@ -69,7 +69,7 @@ WAYS = {
 
 class Ways(unittest.TestCase):
     def test_each_way(self):
-        """Of a whole file, of one that is damaged in one of its five chunks, and of a cut one."""
+        """Each reads a whole file, or raises a bad chunk's error. Of a bad end `open` raises it."""
         plain = words()
         file = agefile.encrypt(plain, recipients=KEY)
         end = agefile.inspect(file).length + 16 + 2 * SEALED
@@ -161,8 +161,8 @@ class Positions(unittest.TestCase):
         self.assertEqual(b"".join(file.readlines(1000)), self.PLAIN[7 : self.PLAIN.index(b"\n", 1006) + 1])
 
     def test_an_error_between_two_chunks(self):
-        """For example one in a signal handler: a short result is then not taken for the end of the
-        plaintext."""
+        """Each call raises such an error, perhaps of a signal handler: a short result would be
+        taken for the end of the plaintext."""
         file = agefile.encrypt(words(), recipients=KEY)
         for name, read in (
             ("read", lambda file: file.read(LENGTH)),
@@ -185,8 +185,8 @@ class Positions(unittest.TestCase):
                 self.assertEqual((whole.tell(), whole.read()), (0, words()))
 
     def test_no_error_is_kept(self):
-        """A kept exception would keep the frames of its traceback, and be raised for another
-        thread's read."""
+        """A kept exception would keep the frames of its traceback, and a later read would raise
+        it."""
         with agefile.open(io.BytesIO(damaged(agefile.encrypt(words(), recipients=KEY), 1)), identities=KEY) as file:
             self.assertEqual(file.raw.readinto(bytearray(LENGTH)), TEXT)
             self.assertEqual(file.raw.chunks.errors, {})

@@ -82,8 +82,8 @@ class Tables(unittest.TestCase):
         self.assertEqual(int(found["square"]) % 2**64, square % 2**64)
 
     def test_one_block_reads_its_own_chunks(self):
-        """A task reads the chunks of its block, the next ones up to the end of a line, and the last
-        one of the file."""
+        """A task reads the chunks of its block, the next ones to find the end of a line, and the
+        last one of the file."""
         blocks = dask_sum.table(self.name, SECRET, BLOCK).to_delayed()
         offsets, read_at = [], _reader._Source.read_at
 
@@ -95,7 +95,7 @@ class Tables(unittest.TestCase):
             blocks[3].compute(scheduler="synchronous")
         first = agefile.inspect(self.name).length + 16
         chunks = {(offset - first) // SEALED for offset in offsets}
-        # From both ends of its block it searches the end of a line, in pieces of 64 KiB.
+        # From both ends of its block the task searches for the end of a line, in pieces of 64 KiB.
         own = set(range(3 * 16 - 1, 4 * 16 + 2))
         self.assertLessEqual(chunks, own | {(self.length - 1) // TEXT})
         self.assertGreaterEqual(chunks, set(range(3 * 16, 4 * 16)))

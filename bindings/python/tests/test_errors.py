@@ -1,4 +1,4 @@
-"""AgeError: its base classes, its pickles."""
+"""AgeError: base classes, pickles, copies, errors made from a text; the module of each name."""
 
 import copy
 import json

@@ -1,4 +1,4 @@
-"""Each call of a caller's file fails in turn, in each way, under each reader and writer. The expected outcome follows
+"""The reads, writes, seeks and flushes of a caller's file fail in turn, in many ways. The expected outcome follows
 from the bytes read or written."""
 
 import contextlib
@@ -20,7 +20,7 @@ OF_SYSTEM = {type(error): error for error in (OSError(number, "failed") for numb
 RAISED = [*OF_SYSTEM, RuntimeError("failed"), EOFError("failed"), MemoryError("failed"), KeyboardInterrupt("failed")]
 EARLIER = "an earlier write failed, so this file stays without its end"
 BINARY, LATIN = {"mode": "wb"}, {"mode": "w", "encoding": "latin-1", "newline": ""}
-# Wrong counts of bytes, each made from the count asked for.
+# Wrong results in place of a count of bytes, each a function of the count asked for.
 WRONG = [lambda count: None, lambda count: -1, lambda count: count + 1, lambda count: "all"]
 
 
@@ -88,7 +88,7 @@ class Devices(unittest.TestCase):
             self.assertTrue(PLAIN.startswith(made) and len(made) < len(PLAIN))
 
     def test_whole(self):
-        """Nothing fails, and each call takes a part."""
+        """Nothing fails, and each call takes at most `most` bytes."""
         for (name, (work, data, key)), most in itertools.product(COPIES.items(), (9000, 40000, 1 << 20)):
             with self.subTest(f"{name}, {most} bytes a call"):
                 sink = Device(most=most)
@@ -167,7 +167,7 @@ class Devices(unittest.TestCase):
         return [result for result in results if isinstance(result, BaseException)]
 
     def test_writers(self):
-        """After a failed write a Writer refuses all more. A file that it opened is flushed as part of each write. Its buffer
+        """After a failed write a Writer refuses further ones. A file that it opened is flushed with each write. Its buffer
         repeats a write that was interrupted, and has an error of its own for one that would block."""
         for kind, is_owned, words in (("write", False, BINARY), ("write", True, BINARY), ("flush", True, BINARY), ("write", False, LATIN), ("flush", True, LATIN)):
             new = lambda device: agefile.open((lambda: device) if is_owned else device, recipients=OTHER, **words)
@@ -187,7 +187,7 @@ class Devices(unittest.TestCase):
         self.assertTrue(is_refused(made, OTHER) or device.fault[0] == "flush" and agefile.decrypt(made, identities=OTHER) == PLAIN)
 
     def test_flushes(self):
-        """A failed flush of a caller's own file costs nothing."""
+        """In binary mode a failed flush of a caller's own file costs nothing."""
         for failure in RAISED:
             device = Device(b"", "flush", 0, failure)
             with agefile.open(device, "wb", recipients=OTHER) as file:

@@ -1,4 +1,4 @@
-"""Open files: reading by ranges and lines, pickles, closing, threads, forks, and what may be opened."""
+"""Open files: among others ranges, lines, pickles, closing, threads, forks, and what may be opened."""
 
 import contextlib
 import csv
@@ -239,7 +239,7 @@ class Reading(InFolder):
                     self.assertIsNotNone(view.obj)
 
     def test_threads_on_one_file(self):
-        """Each piece goes to one of them."""
+        """Each piece goes to one of the threads."""
         plain = text(1000000)
         with agefile.open(self.made(plain), identities=KEY) as file:
             found = in_threads(lambda: [file.read(10000) for _ in range(50)])
@@ -382,7 +382,7 @@ class Reading(InFolder):
             self.assertEqual(file.read(), text(200000)[-5:])
 
     def test_what_is_opened(self):
-        """Paths, descriptors, file objects and openers, wherever a file is expected."""
+        """`open`, `copy` and `rewrap_copy` read paths, descriptors, file objects and openers."""
         plain = text(70000)
         self.made(plain)
         for kind, make in (
@@ -522,7 +522,7 @@ def by_mode(mode: str) -> None:
 class Types(InFolder):
     def test_open(self):
         """A type checker knows what `open` returns in each mode, accepts a mode that is known only
-        at run time, and refuses arguments that no mode takes."""
+        at run time, and refuses arguments that the mode does not take."""
         self.put(TYPED.encode(), "typed.py")
         os.symlink(os.path.dirname(agefile.__file__), "agefile")
         done = subprocess.run(["mypy", "--strict", "typed.py"], capture_output=True, text=True)

@@ -1,5 +1,5 @@
-"""Frameworks over age files: each reads what it reads from plain files, or is refused with the
-package's error. A row is a way to read a folder; a column is what has happened to one file of it."""
+"""Frameworks over age files: each reads what it reads from plain files, or raises an error, which is
+the package's for bad bytes. A row is a way to read a folder; a column is what happened to a file."""
 
 import contextlib
 import errno
@@ -109,7 +109,7 @@ class Place:
 
 
 def made(method, name="a", count=4000, text=0, **words):
-    """Makes a file of a table, whose second column has numbers or long texts."""
+    """A function that makes a file of a table, whose second column has numbers or long texts."""
     rows = lambda seed, rng: [(number, rng.randbytes(text).hex() if text else rng.random()) for number in range(count * seed)]
     return lambda at, seed: getattr(pandas.DataFrame(rows(seed, random.Random(seed)), columns=["n", "r"]), method)(at.path(name), **words)
 
@@ -123,7 +123,7 @@ def value_of(found):
 
 
 def tables(title, make, name="a", **words):
-    """Rows of a function of pandas: the name of a file, an open file, and the pieces of a table."""
+    """Rows of a function of pandas, as far as it can: by name, from an open file, and in pieces."""
     read = lambda file, **more: getattr(pandas, title.split()[1])(file, **words, **more)
     start = " ".join((title, name, *words))
     if "sas" not in title:
@@ -228,7 +228,7 @@ class Frameworks(InFolder):
                     return error
 
     def check(self, state, found, *expected, said=None):
-        """One of these values, or an error of these kinds, or, with a text, the refusal that says it."""
+        """`found` must be one of these values or kinds of error or, with a text, an AgeError with it."""
         with self.subTest(state):
             is_refusal = said is not None and isinstance(found, AgeError)
             same = (type(found) is type(each) if isinstance(found, Exception) else found == each for each in expected)

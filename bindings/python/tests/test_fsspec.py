@@ -1,4 +1,4 @@
-"""The file system for fsspec: files and keys, files that are not age files, chains, writing."""
+"""The file system for fsspec: lists, reads, damage, caches, kept keys, chains, and writing."""
 
 import contextlib
 import importlib
@@ -71,7 +71,7 @@ class Lists(InSystem):
             self.put(b"no age file" * (name != "empty"), name)
 
     def test_lists_open_nothing(self):
-        """Other files are listed, too, and nothing is opened or unlocked."""
+        """Files that are not age files are listed too, and nothing is opened or unlocked."""
         below = fsspec.filesystem("file")
         system, folder = self.system, self.folder
         with mock.patch.object(type(below), "open", side_effect=AssertionError("opened")), mock.patch.object(type(below), "_open", side_effect=AssertionError("opened")):
@@ -235,7 +235,7 @@ class Reads(InSystem):
 
 
 class Keys(InSystem):
-    """A kept key belongs to the file as it was."""
+    """A kept key opens a file only as long as the file is the same."""
 
     def asked_for(self, work):
         before = self.identity.asked
@@ -282,7 +282,7 @@ class Keys(InSystem):
                 self.assertEqual(self.asked_for(lambda: self.system.cat_file(path)), (plain, 1))
 
     def test_how_many_are_kept(self):
-        """Few enough for the pickle that goes to each task; none for a Key, which is as fast without."""
+        """The keys of the last `_MOST_KEYS` files; none for a Key, which is as fast without."""
         self.new("a.age", b"text", [KEY, self.identity])
         for identity, count in ((KEY, 0), (self.identity, 3)):
             system = fsspec.filesystem("age", identities=identity)
@@ -529,7 +529,7 @@ class Writes(InSystem):
             system.rm(path)
 
     def test_atomic_that_fails(self):
-        """Whatever fails in the file system below, the old file stays, and no other file."""
+        """If `mv`, a write or a close below fails, the old file stays, and no other is left."""
         system = fsspec.filesystem("age", fs=DirFileSystem(self.folder, fsspec.filesystem("file")), identities=self.identity, recipients=self.identity, atomic=True)
 
         def fails(*_, **words):

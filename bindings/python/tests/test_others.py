@@ -1,5 +1,5 @@
-"""Files exchanged in both directions with tests/reference.py and agep; and the parts of a new file that must be
-fresh or secret."""
+"""Files exchanged in both directions with tests/reference.py and agep; the parts of a new file that must be
+fresh or secret; work factors; and files of passphrases and keys."""
 
 import base64
 import errno
@@ -239,7 +239,7 @@ class Programs(InFolder):
             self.assertEqual(agefile.decrypt(file, identities=secret), b"text")
 
     def test_work_factors_of_a_passphrase_file(self):
-        """The work factors of new files, and the largest one in files that it opens."""
+        """`work` is the factor of new files, and `max_work` the largest in files to be opened."""
         one, two = (Passphrase.from_file(io.BytesIO(b"word"), work=work, max_work=1) for work in (1, 2))
         self.assertEqual(agefile.inspect(agefile.encrypt(b"", recipients=one)).stanzas[0].args[2], "1")
         self.assertRaisesRegex(AgeError, pattern("Malformed", "WorkFactorTooHigh"), agefile.decrypt, agefile.encrypt(b"", recipients=two), identities=one)

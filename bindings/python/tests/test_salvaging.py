@@ -42,7 +42,7 @@ class Model(test_salvage.Payloads):
             is_whole = False
         self.assertEqual(report.whole, is_whole)
 
-    # Only of the program, which continues under a wrong MAC.
+    # A test of the program only, which continues under a wrong MAC.
     test_changed_header = None
 
     def test_headers(self):
@@ -127,8 +127,8 @@ class FailedReads(unittest.TestCase):
         self.assert_lost(disk, [1], (range(1, 2), True))
 
     def test_no_seek(self):
-        """With a source that cannot seek, salvaging ends there: the part before is written, and the
-        error is raised."""
+        """If the source cannot seek, a failed read ends salvaging: what came before it is written,
+        and the error is raised."""
         bad = [(FRONT + 2 * SEALED) // 512 + 9]
         for disk in (Device(self.file, bad=bad, can_seek=False), types.SimpleNamespace(read=Device(self.file, bad=bad).read)):
             out = io.BytesIO()
@@ -172,8 +172,8 @@ class Arguments(InFolder):
         self.assertEqual(report.lost, (LostChunks(range(1, 2), TEXT, TEXT - 1, False),))
 
     def test_old_file(self):
-        """After a wrong key, an old file at the sink's path stays. With `atomic` it stays after any
-        error."""
+        """After a wrong key, an old file at the sink's path stays. With `atomic` it stays after a
+        failed read, too."""
         name = self.made(text(2 * TEXT))
         for words in ({"identities": Key(bytes(32))}, {"identities": Key(bytes(32)), "atomic": True}):
             self.put(b"old", "out")
@@ -185,8 +185,8 @@ class Arguments(InFolder):
         self.assertRaisesRegex(TypeError, "atomic takes a path", agefile.salvage, name, io.BytesIO(), identities=KEY, atomic=True)
 
     def test_progress(self):
-        """It gets the number of bytes read, including skipped ones, and of all. Its own exception
-        does not count as a failed read."""
+        """`progress` gets the number of bytes read, skipped ones included, and the total. Its own
+        exception does not count as a failed read."""
         name, told = self.made(text(4 * TEXT)), []
         size = os.stat(name).st_size
         agefile.salvage(name, io.BytesIO(), identities=KEY, progress=lambda *numbers: told.append(numbers))
@@ -203,7 +203,7 @@ class Arguments(InFolder):
         self.assertRaisesRegex(BrokenPipeError, "of the progress", agefile.salvage, name, io.BytesIO(), identities=KEY, progress=fails)
 
     def test_report(self):
-        """The names of its fields; it can be pickled and compared."""
+        """A report shows its fields by name, and can be pickled and compared."""
         _, report = saved(io.BytesIO(damaged(agefile.encrypt(text(TEXT + 1), recipients=KEY), 0)))
         self.assertEqual(repr(report), "Salvaged(length=65537, chunks=2, "
                          "lost=(LostChunks(chunks=range(0, 1), offset=0, length=65536, unread=False),), early=None, trailing=0, cut=False, whole=False)")

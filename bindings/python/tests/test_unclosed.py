@@ -1,4 +1,4 @@
-"""Files that nobody committed, and those that more than one call or thread ends."""
+"""Files that nobody committed, or that more than one call or thread ends, and ends that fail."""
 
 import concurrent.futures
 import contextlib
@@ -19,7 +19,7 @@ from support import KEY, InFolder, error_of, in_child, text
 
 class Unclosed(InFolder):
     def test_an_old_file_is_kept(self):
-        """If it was not flushed, and less than a chunk was written. If nobody ends it, `sys.unraisablehook` is told."""
+        """It is kept after less than a chunk without a flush. If nobody ends the new one, `sys.unraisablehook` runs."""
         for mode, data in (("wb", b"text"), ("w", "text")):
             for end in (lambda file: self.assertRaisesRegex(ValueError, "only commit or the clean end of a with block", file.close), lambda file: getattr(file, "buffer", file).abort(), lambda file: None):
                 self.put(b"old", "o.age")
@@ -44,7 +44,7 @@ class Unclosed(InFolder):
             os.remove("w.age")
 
     def test_a_write_beside_the_end(self):
-        """Once a write has returned, its data are in the file; a write after the end is refused."""
+        """The ended file has the data of each write that returned; a later write is refused."""
         def count(file, length, started):
             for number in range(10**7):
                 started.set()
@@ -91,8 +91,8 @@ class Unclosed(InFolder):
             self.assertEqual(self.read("w.age"), b"")
 
     def test_the_end_of_a_program(self):
-        """Each file that something holds to the end is given up, and the user is told, whatever the filters of warnings. Nobody
-        waits for a thread in a write."""
+        """Each file that something holds to the end is given up, and the user is told, whatever the filters of warnings,
+        except for a file that a daemon thread is writing: the end does not wait for that."""
         begin = "import agefile, concurrent.futures, os, sys, threading; key = agefile.Key(bytes(32))\ndef new(*file, **words): return agefile.open(*file, recipients=key, **words)\n"
         for code, names in (
             ("sys.a, sys.b = new('a.age', 'w'), new('b.age', 'wb', atomic=True)", ("a.age", "b.age")),
@@ -139,7 +139,7 @@ class Unclosed(InFolder):
             self.assertEqual((self.read("o.age"), os.listdir()), (b"", ["o.age"]))
 
     def test_what_a_failed_sync_says(self):
-        """That of the folder comes last, and says that the file was replaced; no other does."""
+        """The folder is synced last, and only that sync's error says that the file was replaced."""
         for number in (0, 1):
             with mock.patch("os.fsync", side_effect=[*[None] * number, OSError(errno.EIO, "failed")]):
                 error = error_of(lambda: self.written(b"text", "o.age", atomic=True), OSError)

@@ -1,5 +1,5 @@
-"""Ways to end a file, a block, a task, a thread and a program, each in a process of its own and with each Python on PATH:
-then the disk has the complete new file; or the old or a refused one, and the user is told (not in HALF, `says_nothing`)."""
+"""Ways to end a file, a block, a task, a thread and a program, each in a process of its own. Then the disk has the whole
+new file, or the user is told and the disk has the old or a refused one. HALF and `says_nothing` are exceptions."""
 
 import importlib.util
 import itertools
@@ -238,7 +238,7 @@ class Ways(InFolder):
 
     @unittest.skipIf(importlib.util.find_spec("fsspec") is None, "fsspec is missing")
     def test_fsspec(self):
-        """Only the ends in HALF, which README.md lists, leave half a file; of any other loss the user is told."""
+        """Only ends in HALF (see README.md) leave half a file; else a loss is told, but for `says_nothing`."""
         half = set()
         for (_, end, state), found, told, _ in self.cells(sys.executable, ("fsspec",)):
             if found == "half":

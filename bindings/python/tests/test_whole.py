@@ -1,4 +1,4 @@
-"""Files in memory and from source to sink: results and errors."""
+"""Files in memory and from source to sink: results, errors and memory."""
 
 import array
 import contextlib
@@ -194,7 +194,7 @@ class Wrong(unittest.TestCase):
 
 
 class Callers(unittest.TestCase):
-    """Recipients and identities of the caller."""
+    """Recipients and identities of the caller, and a few facts on those of the package."""
 
     def test_an_interrupt_in_scrypt(self):
         """It ends the call at once, while scrypt runs on."""
@@ -250,7 +250,7 @@ class Callers(unittest.TestCase):
                 self.assertRaisesRegex(ValueError, f"16 bytes, not {length}", secret.wrap, bytes(length))
 
     def test_equal_secrets(self):
-        """By secret and settings, and in constant time."""
+        """Objects are equal by settings and secret; the secrets are compared in constant time."""
         makers = [lambda: Key(bytes(32)), lambda: Key(bytes(range(32))), lambda: Passphrase(bytes(32)), lambda: Passphrase("x"), lambda: Passphrase("x", work=1), lambda: Passphrase("x", max_work=20)]
         for (i, one), (j, other) in itertools.product(enumerate(makers), repeat=2):
             self.assertEqual((one() == other(), one() != other()), (i == j, i != j))
@@ -296,7 +296,7 @@ class Devices(unittest.TestCase):
         self.assertEqual(agefile.decrypt(b"".join(taken), identities=KEY) == self.PLAIN, True)
 
     def test_a_sink_of_short_writes_on_threads(self):
-        """For each chunk of several batches, and the count is the sum."""
+        """Each chunk of several batches is written as a whole; `copy` returns the length of all."""
         class Sink(io.BytesIO):
             def write(self, data):
                 return super().write(data[: max(len(data) // 2, 1)])
@@ -543,7 +543,7 @@ class Costs(unittest.TestCase):
                 self.assertLess(self.peak_of(name, code), self.MIB + 16)
 
     def test_constant_memory(self):
-        """Streams take less than 16 MiB, whatever their length, even from and to pipes."""
+        """Streams of 64 MiB take less than 16 MiB, even from and to pipes."""
         for name, code in (
             (self.made, "shutil.copyfileobj(agefile.open(name, identities=key), open('/dev/null', 'wb'))"),
             (self.plain, "shutil.copyfileobj(open(name, 'rb'), agefile.open('/dev/null', 'wb', recipients=key))"),

@@ -247,7 +247,7 @@ class Writing(InFolder):
             self.assertGreater(os.path.getsize("s.age"), 3 * 65552)
 
     def test_an_error_of_the_sink_that_closes(self):
-        """For example that of an upload that is refused at its end."""
+        """`commit` raises the error, for example of an upload that is refused at its end."""
         class Upload(io.BytesIO):
             def close(self):
                 if not self.closed:
@@ -280,7 +280,7 @@ class Writing(InFolder):
         self.assertEqual(agefile.decrypt(self.got("u.age"), identities=KEY), "über".encode())
 
     def test_atomic_copies(self):
-        """The old file stays whatever raises, also in another thread. A new plaintext is its owner's alone."""
+        """The old file stays after these errors, also of a thread. A new plaintext is its owner's alone."""
         def raises(*_):
             raise KeyError
 
@@ -307,7 +307,7 @@ class Writing(InFolder):
         self.assertEqual([os.stat(name).st_mode & 0o777 for name in ("a.age", "new", "old")], [0o640, 0o600, 0o644])
 
     def test_a_close_that_fails(self):
-        """It is an error of a copy."""
+        """A copy raises the error."""
         self.made(text(200000))
         for words in ({"identities": KEY}, {"recipients": KEY}):
             with mock.patch("agefile._paths.Output.close", fails):
@@ -348,7 +348,7 @@ class Writing(InFolder):
 
     @unittest.skipIf(os.geteuid() != 0, "only root gives files away")
     def test_atomic_and_the_owner(self):
-        """Owner and group stay. If the group cannot stay, the new one gets no permissions. Set-ID bits are dropped."""
+        """Owner and group stay if allowed. If the group does not, the new one gets no permissions. Set-ID bits go."""
         fchown, mode_of = os.fchown, lambda: (lambda it: (it.st_uid, it.st_gid, it.st_mode & 0o7777))(os.stat("o.age"))
         for mode, refused, found in (
             (0o6750, (), (1234, 5678, 0o750)), (0o664, ((1234, 5678),), (0, 5678, 0o664)),
@@ -362,7 +362,7 @@ class Writing(InFolder):
 
     @unittest.skipUnless(shutil.which("setfacl"), "setfacl is missing")
     def test_atomic_and_access_lists(self):
-        """The new file has the list of the old one, and none that its folder would give it."""
+        """The new file gets the old list or, if refused, no group access; never the folder's."""
         acl = lambda name="o.age": subprocess.run(["getfacl", "-cE", name], capture_output=True, text=True, check=True).stdout.split()
         set_acl = lambda *words: subprocess.run(["setfacl", *words], check=True)
         for kind, of_folder, of_file in (("its own", [], ["-m", "u:nobody:r,g::-"]), ("the folder's", ["-d", "-m", "u:nobody:rw"], ["-b"]), ("both", ["-d", "-m", "u:nobody:rw"], ["-m", "u:daemon:r"])):
@@ -378,7 +378,7 @@ class Writing(InFolder):
                 self.assertEqual(acl(name), ["user::rw-", "group::---", "other::---"])
 
     def test_two_writers(self):
-        """A path has one writer at a time, and its lock ends with it, even if a forked child has the descriptor too."""
+        """With locks a path has one writer at a time, whose lock ends with it, although a child has the descriptor."""
         new = lambda: agefile.open("o.age", "wb", recipients=KEY)
         with new() as file:
             child = os.fork()
@@ -408,7 +408,7 @@ class Writing(InFolder):
         self.assertEqual(sorted(os.listdir()), ["like", "loop", "n.age"])
 
     def test_what_a_killed_writer_left(self):
-        """Without locks a path is still written, but what was left stays, and the next writer is refused."""
+        """Without locks a path is still written, but what was left stays and refuses an `atomic` writer."""
         with mock.patch("fcntl.flock", side_effect=OSError(errno.ENOLCK, "no locks")):
             self.written(b"text", "o.age", atomic=True)
             name = os.path.realpath(self.put(b"", "o.age.agep-new"))

@@ -39,8 +39,8 @@ class WithAge(unittest.TestCase):
             cls.pairs.append((path, public, secret))
 
     def test_several_recipients(self):
-        """Each of several recipients opens a file of age, as a whole and by ranges, and each finds
-        its own stanza."""
+        """The identity of each of several recipients opens a file of age, as a whole and by ranges,
+        and finds its own stanza."""
         (_, one, first), (_, two, second) = self.pairs
         file = age("-r", one, "-r", two, data=PLAIN)
         kinds = [stanza.args[0] for stanza in agefile.inspect(file).stanzas]
@@ -67,7 +67,7 @@ class WithAge(unittest.TestCase):
             self.assertEqual(agefile.decrypt(file, identities=x25519.X25519Identity(secret)), PLAIN)
 
     def test_malformed_stanzas(self):
-        """A share of low order, and shares and bodies of wrong length, are refused as by age."""
+        """Shares of low order or wrong length, no share, and short bodies are refused as by age."""
         path, _, secret = self.pairs[0]
         for args, body in ((("X25519", "A" * 43), bytes(32)), (("X25519", "A" * 42), bytes(32)), (("X25519",), bytes(32)), (("X25519", "A" * 43), bytes(31))):
             class Bad:

@@ -10,7 +10,7 @@ use std::{env, process};
 
 use agefile::{Key, Reader, Writer};
 
-/// The length of the pieces read; `io::copy` alone takes 8 KiB.
+/// The length of the pieces read to encrypt; `io::copy` alone takes 8 KiB.
 const PIECE: usize = 65536;
 
 fn main() -> io::Result<()> {

@@ -1,4 +1,4 @@
-//! The functions and structs of `agefile.h`, and safe wrappers of the functions.
+//! The exported functions and the structs of `agefile.h`, safe wrappers, and random bytes.
 
 use std::io;
 

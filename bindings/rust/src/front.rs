@@ -44,7 +44,7 @@ pub fn fill(source: &mut impl Read, buf: &mut [u8], have: &mut usize) -> io::Res
     Ok(())
 }
 
-/// The bytes read from a source up to its nonce, and its file key. A failed read loses nothing.
+/// All bytes read until the nonce was complete, and the file key. A failed read loses nothing.
 #[derive(Default)]
 pub struct Front {
     pub bytes: Vec<u8>,
@@ -86,9 +86,9 @@ impl Front {
         }
     }
 
-    /// Whether to parse the header now. Before the last read there were `had` bytes. Parses after
-    /// every read, because it may complete the header or make it invalid; once that has taken too
-    /// long, only after a read of what may be the header's last line.
+    /// Whether to parse the header now. Before the last read there were `had` bytes. Each read may
+    /// complete or spoil the header, so true after each; but while too many bytes have been parsed
+    /// for those read, true only after a read of what may be the header's last line.
     fn is_due(&self, had: usize) -> bool {
         let new = &self.bytes[had.saturating_sub(LAST_LINE)..];
         self.tried <= 16 * (self.bytes.len() + MARGIN) || new.windows(4).any(|four| four == b"\n---")

@@ -3,12 +3,12 @@
 use crate::ffi::{self, Report, StanzaSummary};
 use crate::{Error, FileKey, Identity, Recipient};
 
-/// An entry of a header, which holds the file key for a recipient. [`Recipient`] has an example.
+/// An entry of a header, usually a wrapped file key. [`Recipient`] has an example.
 #[derive(Clone, Debug, PartialEq, Eq)]
 pub struct Stanza {
     /// The type, then the arguments.
     pub args: Vec<String>,
-    /// The body's bytes.
+    /// The body, decoded from its base64.
     pub body: Vec<u8>,
 }
 
@@ -84,7 +84,7 @@ fn stanza_text(stanza: &Stanza) -> Result<Vec<u8>, Error> {
         return Err(Error::BadArguments);
     }
     let args = stanza.args.join(" ");
-    // Each 48 bytes of a body are a line of 65.
+    // Each 48 bytes of a body become 64 characters and an LF.
     let room = args.len() + stanza.body.len() / 48 * 65 + 80;
     written(room, |out| ffi::wrap(args.as_bytes(), &stanza.body, out))
 }

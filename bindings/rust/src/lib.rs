@@ -9,7 +9,7 @@
 //!
 //! A file is encrypted for one or more recipients, and decrypted with one or more identities. Both
 //! may be a [`Passphrase`] or a [`Key`] of 32 bytes, or a caller's own [`Recipient`] or
-//! [`Identity`]. Files for a `Passphrase` are exchanged with `age`; only `agep` and this library
+//! [`Identity`]. Files for a `Passphrase` can be exchanged with `age`; only `agep` and `libagefile`
 //! open files for a `Key`.
 //!
 //! ```
@@ -28,8 +28,8 @@
 //! # }
 //! ```
 //!
-//! The code of `libagefile`, the library underneath, is proved; this crate is ordinary, tested Rust
-//! over it. Memory is not wiped, and constant time is not promised.
+//! The Rattle code in `libagefile`, the library underneath, is proved; this crate is ordinary,
+//! tested Rust over it. Memory is not wiped, and constant time is not promised.
 #![warn(missing_docs, missing_debug_implementations)]
 
 /// Implements `Debug` with the type's name and these fields alone.

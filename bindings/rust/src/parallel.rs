@@ -22,8 +22,8 @@ use crate::{Error, FileKey, Identity, Recipient};
 /// Seals or opens the next chunk of a part, from the first slice into the second.
 type Step = fn(&mut Part, &[u8], &mut [u8]) -> Result<(), Error>;
 
-/// Encrypts a plaintext as [`crate::encrypt`] does, on up to `threads` threads. Uses fewer if the
-/// system cannot start as many.
+/// Encrypts a plaintext as [`crate::encrypt`] does, on up to `threads` threads (0 means 1). Uses
+/// fewer if the system cannot start as many, or for a short plaintext.
 pub fn encrypt(plain: &[u8], recipients: &[&dyn Recipient], threads: usize) -> io::Result<Vec<u8>> {
     let (file_key, nonce) = (FileKey(ffi::random()?), ffi::random()?);
     let stanzas = stanzas_text(recipients, &file_key)?;
@@ -61,9 +61,9 @@ pub fn decrypt(file: &[u8], identities: &[&dyn Identity], threads: usize) -> Res
     Ok(out)
 }
 
-/// Processes all chunks except the last, and returns the rest of the input and of the output. The
-/// error is that of the first chunk with one: each thread takes the next part, until one of its
-/// parts has an error.
+/// Processes all chunks except the last, and returns the rest of the input and of the output. If
+/// chunks have errors, returns that of the first: threads take the parts in order, and each stops
+/// only at an error.
 fn in_parts<'a, 'b>(
     payload: &mut Payload,
     input: &'a [u8],

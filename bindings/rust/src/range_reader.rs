@@ -9,8 +9,8 @@ use crate::{Error, Identity};
 
 /// Reads any part of the plaintext of an age file, by [`Read`] and [`Seek`].
 ///
-/// Opens only the chunks that are read, so damage in other chunks is not noticed. Opens the last
-/// chunk first, because it proves where the plaintext ends. Every byte returned was verified.
+/// Opens the last chunk first, because it proves where the plaintext ends, and then only the chunks
+/// that are read: damage in other chunks is not noticed. Every byte returned was verified.
 ///
 /// ```
 /// use std::io::{Cursor, Read, Seek, SeekFrom};

@@ -8,7 +8,7 @@ use crate::ffi::{self, Payload, SEALED_CHUNK};
 use crate::front::{fill, Front};
 use crate::{Error, Identity};
 
-/// A [`Reader`] whose header has not been read yet, for nonblocking sources.
+/// Reads the header of an age file from a nonblocking source, and then becomes a [`Reader`].
 ///
 /// ```
 /// # use std::io::{ErrorKind, Read};
@@ -67,9 +67,9 @@ impl<R> fmt::Debug for Opening<R> {
 /// Every byte returned was verified. The plaintext is complete only after a read into a nonempty
 /// buffer returned `Ok(0)`.
 ///
-/// After an [`Error`] every such read returns it again. The error of a damaged or truncated chunk
-/// never has the kind `UnexpectedEof`, which `read_exact` returns at the end of the plaintext.
-/// After a failed read of the source, such as one that would block, reading can continue.
+/// An [`Error`] is returned again by every later read into a nonempty buffer. That of a damaged or
+/// truncated chunk never has the kind `UnexpectedEof`, which `read_exact` returns at the end of the
+/// plaintext. After a failed read of the source, such as `WouldBlock`, reading can continue.
 ///
 /// ```
 /// # fn main() -> std::io::Result<()> {
@@ -89,8 +89,8 @@ pub struct Reader<R> {
     ahead: io::Cursor<Vec<u8>>,
     /// A chunk, sealed or opened, and the byte after it, which shows that it is not the last.
     buf: Box<[u8]>,
-    /// The number of bytes of the next sealed chunk that were read, and the first of them, which
-    /// comes after the chunk that was opened.
+    /// The number of bytes read of the next sealed chunk, and the first of these bytes, kept here
+    /// because the opened text may be in its place in `buf`.
     sealed: usize,
     first: u8,
     /// The text in `buf` that was not returned yet.

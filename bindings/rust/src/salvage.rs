@@ -7,7 +7,7 @@ use crate::ffi::{self, Report, SEALED_CHUNK, TAG};
 use crate::front::{again, fill, read_some, Front};
 use crate::Identity;
 
-// What was saved of a chunk, and what the plaintext is after the last, by the numbers of `agefile.h`.
+// Values of the enums `agefile_saved` and `agefile_verdict` of `agefile.h`.
 const EARLY: u64 = 3;
 const ZEROS: u64 = 4;
 const PADDED: u64 = 6;
@@ -32,18 +32,18 @@ pub struct LostChunks {
 pub struct Salvaged {
     /// The number of bytes written, zeros included.
     pub len: u64,
-    /// The number of chunks.
+    /// The number of chunks, including a last one of which nothing was saved.
     pub chunks: u64,
     /// The chunks that are lost.
     pub lost: Vec<LostChunks>,
     /// The latest chunk that is marked as the last and cannot be it: a chunk follows it, or it is
     /// empty after other chunks.
     pub early: Option<u64>,
-    /// The number of bytes of the file after the early chunk, or after the last one if there is
-    /// none.
+    /// The number of bytes of the file after the early chunk or, without an early chunk, after the
+    /// last one.
     pub trailing: u64,
-    /// Whether the file is known to be cut short. If its last chunk is lost, with or without up to
-    /// 16 bytes after it, more may be missing, too.
+    /// Whether the file is known to be cut short. False if its last chunk is lost, even if up to 16
+    /// bytes follow that chunk: it is then not known whether more is missing.
     pub is_cut: bool,
     /// Whether the plaintext is complete and genuine. Exactly then [`decrypt`](crate::decrypt)
     /// returns it.
@@ -84,9 +84,9 @@ impl Salvaged {
 /// which then cannot seek.
 ///
 /// # Errors
-/// Damaged chunks are not an error. A wrong key is one, and so is a damaged header, even if a key
-/// fits it. The other errors are those of the sink, of reads of the header and, if the source
-/// cannot seek, of all reads. What was saved before the error has been written.
+/// Damaged chunks are not an error. A wrong key is one, as is a missing nonce or a damaged header,
+/// even if a key fits it. Other errors include those of the sink, of seeks, of reads of the header
+/// and, if the source cannot seek, of all reads. What was saved before the error has been written.
 ///
 /// ```
 /// # fn main() -> std::io::Result<()> {
@@ -126,7 +126,7 @@ pub fn salvage(source: impl Read + Seek, mut sink: impl Write, identities: &[&dy
     }
 }
 
-/// A source that, after a failed read, returns zeros up to the next chunk, if it can seek.
+/// A source that, after a failed read, returns zeros up to the next chunk, unless `skip` fails.
 struct Skipping<R> {
     source: R,
     can_seek: bool,
@@ -153,7 +153,7 @@ impl<R: Read + Seek> Skipping<R> {
         found
     }
 
-    /// Moves the source to the next chunk or to its end. Returns the error if it cannot.
+    /// Moves the source to its next chunk or its end. On failure returns `error` or a seek error.
     fn skip(&mut self, error: io::Error) -> io::Result<()> {
         // A read that would block says nothing about the disk.
         let is_retried = error.kind() == io::ErrorKind::WouldBlock;

@@ -43,7 +43,7 @@ pub struct FileKey(pub [u8; 16]);
 /// # }
 /// ```
 pub trait Recipient {
-    /// Wraps this file key. Returns the stanzas that hold it, in order.
+    /// Wraps this file key. Returns stanzas for the header, in order.
     fn wrap(&self, file_key: &FileKey) -> Result<Vec<Stanza>, Error>;
 }
 
@@ -53,7 +53,7 @@ pub trait Recipient {
 /// # fn main() -> std::io::Result<()> {
 /// use agefile::{Error, FileKey, Header, Identity, Key};
 ///
-/// /// Keys by the name that a second stanza has for them.
+/// /// Keys with names. A second stanza of the header names the key to try.
 /// struct Ring(Vec<(String, Key)>);
 ///
 /// impl Identity for Ring {
@@ -84,8 +84,8 @@ pub trait Identity {
     /// this identity. The caller then checks the header's MAC under the key.
     ///
     /// # Errors
-    /// [`Error::WrongKey`] if a stanza is for this identity but does not open: the next identity is
-    /// tried, as after [`Error::NoMatch`]. Any other error ends the search.
+    /// [`Error::WrongKey`] if stanzas are of this identity's type but none opens: the next identity
+    /// is tried, as after [`Error::NoMatch`]. Any other error ends the search.
     fn unlock(&self, header: &Header) -> Result<Option<FileKey>, Error>;
 }
 
@@ -137,9 +137,9 @@ impl Passphrase {
         Passphrase { text: text.into(), work: 18, max_work: 22, is_untyped: false }
     }
 
-    /// Reads a passphrase file as `agep -p` does: at most 65,536 bytes, without one LF at the end. A
-    /// passphrase that ends in CR or LF, or begins with a byte-order mark, which nobody types, can
-    /// open files but not make them ([`Error::UntypedPassphrase`]).
+    /// Reads a passphrase file of at most 65,536 bytes as `agep -p` does, and drops one LF at its
+    /// end. A passphrase that then ends in CR or LF, or begins with a byte-order mark, can open
+    /// files but not make them ([`Error::UntypedPassphrase`]), because nobody types such bytes.
     ///
     /// # Errors
     /// That of the system, or `InvalidInput` if the file has more bytes.

@@ -77,7 +77,7 @@ impl<W: Write> Write for Writer<W> {
         if text.is_empty() {
             return Ok(0);
         }
-        // A full chunk waits for the byte after it: it may be the last one.
+        // A full chunk may be the last one, so it waits for the byte after it.
         if self.len == TEXT_CHUNK {
             self.put_chunk(false)?;
         }

@@ -1,4 +1,4 @@
-//! Tests of the safe functions, and of how the library's errors arrive.
+//! Tests of each way to make and to open files, of secrets, headers, callers' types, and errors.
 
 mod common;
 
@@ -10,10 +10,10 @@ use agefile::{
 };
 use common::{base64, fault, key, sealed, text, Call, Device, SEALED, TEXT};
 
-/// A file of `hello` for the empty passphrase, by `tests/reference.py` of this project.
+/// A file of `hello` and LF for the empty passphrase, by `tests/reference.py` of this project.
 const EMPTY_PASSPHRASE: &[u8] = include_bytes!("empty_passphrase.age");
 
-/// Around the edges of chunks.
+/// Lengths of plaintexts, most of them around the edges of chunks.
 const SIZES: [usize; 8] = [0, 1, 16, 65535, 65536, 65537, 131072, 200000];
 
 fn passphrase() -> Passphrase {
@@ -259,7 +259,7 @@ fn no_byte_is_awaited_that_is_not_needed() {
     (bad.len() - 6..bad.len()).for_each(|cut| is_refused_at_once(&bad, cut, &[wrong], Error::BadLine(3)));
 }
 
-/// A file has each chunk once it is full and a byte follows it.
+/// A chunk is written once it is full and a byte follows it.
 #[test]
 fn unfinished_files_are_cut_after_their_full_chunks() {
     for len in [0, 10, TEXT, TEXT + 1, 2 * TEXT, 200000] {
@@ -325,7 +325,7 @@ fn headers_are_shown() {
     assert!(library_version() >= (0, 4, 0));
 }
 
-/// A caller's own: the file key stands in the stanza as it is.
+/// A caller's own recipient and identity: the stanza's body is the file key, in the clear.
 struct Plain;
 
 impl Recipient for Plain {
@@ -366,7 +366,7 @@ fn work_factors_are_18_and_at_most_22_or_those_that_were_set() {
     }
 }
 
-/// An identity that finds this in each header.
+/// An identity that returns this for each header.
 struct Says(Result<Option<FileKey>, Error>);
 
 impl Identity for Says {
@@ -375,7 +375,7 @@ impl Identity for Says {
     }
 }
 
-/// One that finds another file key.
+/// An identity that returns another file key.
 const WRONG: Says = Says(Ok(Some(FileKey([0; 16]))));
 
 /// The first match or error that is not a miss ends the search. Of misses a wrong key counts most.

@@ -1,5 +1,5 @@
 //! Damaged files on several threads and by ranges, and a file that changes while open. The expected
-//! results follow by arithmetic. The packages' tests compare each way of reading with test vectors.
+//! results follow by arithmetic. tests/test_packages.py compares each way of reading with vectors.
 
 mod common;
 

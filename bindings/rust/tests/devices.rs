@@ -22,7 +22,7 @@ fn kinds() -> Vec<ErrorKind> {
     kinds
 }
 
-/// How calls of one kind fail: once, or from then on.
+/// How calls of one kind fail: call `at` alone, or also calls after it.
 #[derive(Debug)]
 struct Case {
     call: Call,

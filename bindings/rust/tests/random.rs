@@ -1,4 +1,4 @@
-//! What is random in a file: each byte is the system's, and stands at one place. This binary has a
+//! The random parts of a file: each is the next 16 random bytes of the system. This binary has a
 //! `getrandom` of its own, which `agefile` calls in place of the system's.
 
 mod common;
@@ -15,8 +15,8 @@ const FAILED: i32 = 5;
 
 #[derive(Debug, Default)]
 struct System {
-    /// How the next calls end, the next one last: with so many bytes at most, or an error. Calls
-    /// after these give all that they are asked for.
+    /// How the next calls end, in reverse order: with so many bytes at most, or with an error.
+    /// Later calls give all that they are asked for.
     ends: Vec<Result<usize, i32>>,
     given: Vec<u8>,
     /// The flags of all calls: 0 waits until the system's bytes are random.
@@ -48,7 +48,7 @@ extern "C" fn getrandom(buf: *mut u8, len: usize, flags: u32) -> isize {
                 count as isize
             }
             Err(number) => {
-                // SAFETY: it is this thread's.
+                // SAFETY: the pointer is to this thread's `errno`.
                 unsafe { *__errno_location() = number };
                 -1
             }
@@ -56,7 +56,7 @@ extern "C" fn getrandom(buf: *mut u8, len: usize, flags: u32) -> isize {
     })
 }
 
-/// Makes a file of `text` or `hello` for these recipients.
+/// Makes a file for these recipients.
 type Way = fn(&[&dyn Recipient], &mut Vec<u8>) -> io::Result<()>;
 
 /// Each way to make a file, and its number of random parts before the salts: file key and nonce.
@@ -73,7 +73,7 @@ const WAYS: &[(&str, usize, Way)] = &[
     ("rewrap_copy", 0, |recipients, out| rewrap_copy(OLD, out, &[&Passphrase::new("")], recipients)),
 ];
 
-/// Makes a file on a system whose calls end so. Returns the ends left over and the bytes given.
+/// Makes a file on a system with these `ends`. Returns the ends left over and the bytes given.
 fn made(
     way: Way,
     recipients: &[&dyn Recipient],

@@ -1,5 +1,5 @@
-//! What is left of files whose reads fail. The expected results follow by arithmetic. The packages'
-//! tests compare the same calls with a model, for damaged, cut and long files of all kinds.
+//! What is left of files whose reads fail. The expected results follow by arithmetic.
+//! tests/test_packages.py compares `salvage` with a model, for damaged and cut files of all kinds.
 
 mod common;
 

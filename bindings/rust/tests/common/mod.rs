@@ -1,4 +1,4 @@
-//! What the tests share: plaintexts, files, and a model of devices. No test has all of it.
+//! What the tests share: plaintexts, files, and a model of devices. No test uses all of it.
 #![allow(dead_code)]
 
 use std::io::{self, Cursor, ErrorKind, Read, Seek, SeekFrom, Write};
@@ -44,11 +44,11 @@ pub enum Call {
     Flush,
 }
 
-/// How a call fails: with an error, or, if it is `None`, by returning more than it was asked for, or
-/// 0 from a seek.
+/// How a call fails: with an error of this kind; with `None` a read or a write returns more than it
+/// was asked for, and a seek returns 0.
 pub type Failure = Option<ErrorKind>;
 
-/// The calls of one kind that fail: every `step`th of these, counted from 0.
+/// The calls of one kind that fail: every `step`th of `numbers`, which count the calls from 0.
 #[derive(Clone, Debug)]
 pub struct Fault {
     pub call: Call,
@@ -64,12 +64,12 @@ pub struct Device {
     /// The most bytes that one call reads or writes.
     pub most: usize,
     pub faults: Vec<Fault>,
-    /// These bytes cannot be read. A read that begins before them ends there or, if all or none of
-    /// its bytes are read, fails.
+    /// These bytes cannot be read. A read that begins before them and reaches them ends there or,
+    /// with `all_or_none`, fails.
     pub bad: Vec<(usize, usize)>,
     pub all_or_none: bool,
-    /// How many calls of each kind were made, where those that failed found the file, and how many
-    /// bytes it had at the last flush.
+    /// The number of calls of each kind, the file's position at each call that `faults` made fail,
+    /// and the file's length at the last flush.
     pub calls: [usize; 4],
     pub failed: Vec<usize>,
     pub flushed: usize,
@@ -101,7 +101,7 @@ impl Device {
         self.file.get_ref()
     }
 
-    /// Counts a call on `len` bytes. Returns the wrong count that it returns, if any.
+    /// Counts a call on `len` bytes. If it must fail, returns its error or the wrong count for it.
     fn called(&mut self, call: Call, len: usize) -> io::Result<Option<usize>> {
         let number = self.calls[call as usize];
         self.calls[call as usize] += 1;
